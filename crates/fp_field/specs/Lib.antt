@@ -1,0 +1,4 @@
+pub mod Field
+pub mod Sums
+pub mod Chains
+pub mod Normal

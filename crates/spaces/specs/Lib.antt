@@ -1,0 +1,12 @@
+pub mod Simplicial
+pub mod Tables
+pub mod Nerves
+pub mod Products
+pub mod Suspensions
+pub mod LoopGroups
+pub mod Cocycles
+pub mod Spaces
+pub mod Homology
+pub mod Allowed
+pub mod Orders
+pub mod SmallCells

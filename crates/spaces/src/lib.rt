@@ -1,0 +1,9 @@
+//! Definitions of simplicial sets, their normalised chains and their homology over F_p, and the laws of these.
+//!
+//! This crate has definitions and laws alone. Each space is a construction on abstract parts, one file of `specs/` for each; a
+//! function here has an empty body, and its contract is a law.
+#![tactic(auto)]
+
+mod laws;
+
+pub use laws::product_laws;
