@@ -12,17 +12,22 @@ abbrev pub face_count : ℕ → ℕ
 face_count zero = 0
 face_count (suc n) = suc (suc n)
 
+-- the faces of each row are simplices one degree below, with d_j d_(i+1) = d_i d_j for j at most i
+pub record HasFaces (t : Table) : Type 0 where
+  pub counted : (r : ℕ) → r < length t → length (row_at t r).faces ≡ face_count (row_at t r).dim
+  pub faces_in : (r n i : ℕ) → r < length t → (row_at t r).dim ≡ suc n → i ≤ suc n → InTable t n (row_face t i ([], r))
+  pub face_law : (r n i j : ℕ) → r < length t → (row_at t r).dim ≡ suc (suc n) → j ≤ i → i ≤ suc n
+      → row_face t j (row_face t (suc i) ([], r)) ≡ row_face t i (row_face t j ([], r))
+
 pub record IsTable (t : Table) : Type 0 where
   pub some_row : 0 < length t
   pub at_most : length t ≤ 256
   pub low : (r : ℕ) → r < length t → (row_at t r).dim ≤ 16
   pub names_differ : (r s : ℕ) → r < length t → s < length t → (row_at t r).name ≡ (row_at t s).name → r ≡ s
-  pub counted : (r : ℕ) → r < length t → length (row_at t r).faces ≡ face_count (row_at t r).dim
   -- a face is a simplex on an earlier row
   pub earlier : (r i : ℕ) → r < length t → i < length (row_at t r).faces → (listed_face t i r).1 < r
-  pub faces_in : (r n i : ℕ) → r < length t → (row_at t r).dim ≡ suc n → i ≤ suc n → InTable t n (row_face t i ([], r))
-  pub face_law : (r n i j : ℕ) → r < length t → (row_at t r).dim ≡ suc (suc n) → j ≤ i → i ≤ suc n
-      → row_face t j (row_face t (suc i) ([], r)) ≡ row_face t i (row_face t j ([], r))
+  pub faces : HasFaces t
+  pub open faces use *
 
 -- One value for each row, 0 where it is not of dimension 2, and c(d_0) - c(d_1) + c(d_2) - c(d_3) = 0 on each row of dimension 3.
 pub record IsCocycle {G : Type 0} (group : Abelian G) (t : Table) (values : List G) : Type 0 where
