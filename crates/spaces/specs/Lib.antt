@@ -10,3 +10,4 @@ pub mod Homology
 pub mod Allowed
 pub mod Orders
 pub mod SmallCells
+pub mod SphereCycles

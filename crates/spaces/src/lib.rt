@@ -5,5 +5,7 @@
 #![tactic(auto)]
 
 mod laws;
+mod spheres;
 
 pub use laws::{product_laws, sphere_laws, table_laws};
+pub use spheres::sphere_homology;
