@@ -6,4 +6,4 @@
 
 mod laws;
 
-pub use laws::{product_laws, sphere_laws, table_laws};
+pub use laws::{integers_laws, product_laws, residues_laws, sphere_laws, table_laws};
