@@ -6,4 +6,7 @@
 
 mod laws;
 
-pub use laws::{integers_laws, product_laws, residues_laws, sphere_laws, table_laws};
+pub use laws::{
+    integers_group, integers_laws, product_laws, residues_group, residues_laws, sphere_laws,
+    table_laws,
+};
