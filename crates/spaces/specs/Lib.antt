@@ -1,6 +1,7 @@
 pub mod Simplicial
 pub mod Tables
 pub mod Nerves
+pub mod Groups
 pub mod Products
 pub mod Suspensions
 pub mod LoopGroups

@@ -7,5 +7,8 @@
 mod laws;
 mod spheres;
 
-pub use laws::{product_laws, sphere_laws, table_laws};
+pub use laws::{
+    integers_group, integers_laws, product_laws, residues_group, residues_laws, sphere_laws,
+    table_laws,
+};
 pub use spheres::sphere_homology;
