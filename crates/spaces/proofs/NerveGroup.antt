@@ -53,7 +53,7 @@ module _ {G : Type 0} (group : Abelian G) (laws : IsAbelian group) where
   times-commute (a ∷ x) (b ∷ y) ix iy =
       λ i. laws.commutes a b (each_first group a x ix) (each_first group b y iy) i ∷ times-commute x y (each_rest group a x ix) (each_rest group b y iy) i
 
-  unit-times : (n : ℕ) (x : List G) → length x ≡ n → Each group x → nerve_times group (copies n group.none) x ≡ x
+  pub unit-times : (n : ℕ) (x : List G) → length x ≡ n → Each group x → nerve_times group (copies n group.none) x ≡ x
   unit-times zero [] e is = refl
   unit-times zero (a ∷ x) e is = absurd (omega (arith, e))
   unit-times (suc n) [] e is = absurd (omega (arith, e))

@@ -2,8 +2,8 @@
 ghost use Rattle.spaces.specs.Groups.{IsSimplicialGroup};
 ghost use Rattle.spaces.specs.Nerves.{integers, integers_modulo, nerve_times};
 ghost use Rattle.spaces.specs.Simplicial.{IsSimplicial};
-ghost use Rattle.spaces.specs.Allowed.{IsTable};
-ghost use Rattle.spaces.specs.Spaces.{Space, table, sphere, product, kz1, kzm1, set_of};
+ghost use Rattle.spaces.specs.Allowed.{IsTable, Admits};
+ghost use Rattle.spaces.specs.Spaces.{Space, table, sphere, product, suspension, kz1, kzm1, set_of};
 ghost use Rattle.spaces.specs.Tables.{Table, copies};
 ghost use Rattle.std.specs.Prelude.{ℕ, ◌<◌, map};
 
@@ -21,6 +21,12 @@ pub fn table_laws()
 /// Each sphere of dimension 1 or more is a simplicial set (May, Simplicial Objects, chapter I).
 pub fn sphere_laws()
     ensures { (m : ℕ) → 0 < m → IsSimplicial (set_of (sphere m)) }
+{}
+
+/// The suspension of an allowed space that is a simplicial set is one (May, Simplicial Objects,
+/// chapter VI, 27).
+pub fn suspension_laws()
+    ensures { (a : Space) → Admits a → IsSimplicial (set_of a) → IsSimplicial (set_of (suspension a)) }
 {}
 
 /// The nerve of the integers is a simplicial set (May, Simplicial Objects, chapter IV, 21).
