@@ -53,15 +53,27 @@ same_refl (cyclic_bundle t m c) x = and_from _ _ (row_refl x.0) (nat_list_eq_equ
 
 -- ---- the constructions
 
+-- the fields of `IsBaseTest` at a space
+abbrev VertexPasses : Space → Type 0
+VertexPasses a = (x : Plain a) → (set_of a).In 0 x → is_base a x ≡ true
+
+abbrev FacesPass : Space → Type 0
+FacesPass a = (n i : ℕ) (x : Plain a) → (set_of a).In (suc n) x → i ≤ suc n → is_base a x ≡ true → is_base a ((set_of a).face i x) ≡ true
+
+abbrev DegeneraciesPass : Space → Type 0
+DegeneraciesPass a = (n i : ℕ) (x : Plain a) → (set_of a).In n x → i ≤ n → is_base a ((set_of a).degeneracy i x) ≡ is_base a x
+
+abbrev IsFirst : Space → Type 0
+IsFirst a = (n : ℕ) (x : Plain a) → (set_of a).In (suc n) x → is_base a x ≡ true → x ≡ (set_of a).degeneracy 0 ((set_of a).face 0 x)
+
 suspension_base : (a : Space) → IsBaseTest (set_of (suspension a)) (is_base (suspension a))
 suspension_base a = record { vertex = vertex; face_base = face_base; degeneracy_base = degeneracy_base; first = first }
   where
-    vertex : (x : Plain (suspension a)) → (set_of (suspension a)).In 0 x → is_base (suspension a) x ≡ true
+    vertex : VertexPasses (suspension a)
     vertex None is = refl
     vertex (Some s) is = let b : s.0 < 0 = is.0 in absurd (omega (arith, b))
 
-    face_base : (n i : ℕ) (x : Plain (suspension a)) → (set_of (suspension a)).In (suc n) x → i ≤ suc n → is_base (suspension a) x ≡ true
-        → is_base (suspension a) ((set_of (suspension a)).face i x) ≡ true
+    face_base : FacesPass (suspension a)
     face_base n i None is h b = refl
     face_base n i (Some s) is h b = absurd (true≢false (sym b))
 
@@ -69,33 +81,31 @@ suspension_base a = record { vertex = vertex; face_base = face_base; degeneracy_
     raised true s t = refl
     raised false s t = refl
 
-    degeneracy_base : (n i : ℕ) (x : Plain (suspension a)) → (set_of (suspension a)).In n x → i ≤ n
-        → is_base (suspension a) ((set_of (suspension a)).degeneracy i x) ≡ is_base (suspension a) x
+    degeneracy_base : DegeneraciesPass (suspension a)
     degeneracy_base n i None is h = refl
     degeneracy_base n i (Some s) is h = raised (nat_le i s.0) _ _
 
-    first : (n : ℕ) (x : Plain (suspension a)) → (set_of (suspension a)).In (suc n) x → is_base (suspension a) x ≡ true
-        → x ≡ (set_of (suspension a)).degeneracy 0 ((set_of (suspension a)).face 0 x)
+    first : IsFirst (suspension a)
     first n None is b = refl
     first n (Some s) is b = absurd (true≢false (sym b))
 
 loops_base : (a : Space) → Admits (loops a) → IsBaseTest (set_of (loops a)) (is_base (loops a))
 loops_base a ad = record { vertex = vertex; face_base = face_base; degeneracy_base = degeneracy_base; first = first }
   where
-    vertex : (x : Plain (loops a)) → (set_of (loops a)).In 0 x → is_base (loops a) x ≡ true
+    vertex : VertexPasses (loops a)
     vertex [] is = refl
     vertex (l ∷ w) is = absurd (no_letter (set_of a) ad.2 l w is.0.0 is.1)
 
-    face_base : (n i : ℕ) (x : Plain (loops a)) → (set_of (loops a)).In (suc n) x → i ≤ suc n → is_base (loops a) x ≡ true → is_base (loops a) ((set_of (loops a)).face i x) ≡ true
+    face_base : FacesPass (loops a)
     face_base n zero [] is h b = refl
     face_base n (suc i) [] is h b = refl
     face_base n i (l ∷ w) is h b = absurd (true≢false (sym b))
 
-    degeneracy_base : (n i : ℕ) (x : Plain (loops a)) → (set_of (loops a)).In n x → i ≤ n → is_base (loops a) ((set_of (loops a)).degeneracy i x) ≡ is_base (loops a) x
+    degeneracy_base : DegeneraciesPass (loops a)
     degeneracy_base n i [] is h = refl
     degeneracy_base n i (l ∷ w) is h = refl
 
-    first : (n : ℕ) (x : Plain (loops a)) → (set_of (loops a)).In (suc n) x → is_base (loops a) x ≡ true → x ≡ (set_of (loops a)).degeneracy 0 ((set_of (loops a)).face 0 x)
+    first : IsFirst (loops a)
     first n [] is b = refl
     first n (l ∷ w) is b = absurd (true≢false (sym b))
 
@@ -106,24 +116,25 @@ paths_base a ad test = record { vertex = vertex; face_base = face_base; degenera
     unit : (n : ℕ) (x : Plain a) → (set_of a).In (suc n) x → is_base a x ≡ true → letter_word (set_of a) x ≡ []
     unit n x is b = letter_word-unit (set_of a) x (ap (λ y. (set_of a).same x y) (sym (test.first n x is b)) ∙ same_refl a x)
 
-    vertex : (x : Plain (paths a)) → (set_of (paths a)).In 0 x → is_base (paths a) x ≡ true
+    vertex : VertexPasses (paths a)
     vertex (x, []) is = test.vertex x is.0
     vertex (x, l ∷ w) is = absurd (no_letter (set_of a) ad.2 l w is.1.0.0 is.1.1)
 
-    face_base : (n i : ℕ) (x : Plain (paths a)) → (set_of (paths a)).In (suc n) x → i ≤ suc n → is_base (paths a) x ≡ true → is_base (paths a) ((set_of (paths a)).face i x) ≡ true
+    face_base : FacesPass (paths a)
     face_base n zero (x, []) is h b =
         ap (λ v. is_base (paths a) ((set_of a).face 0 x, word_times (set_of a) v (loop_face (set_of a) 0 []))) (unit n x is.0 b) ∙ test.face_base n 0 x is.0 h b
     face_base n (suc i) (x, []) is h b = test.face_base n (suc i) x is.0 h b
     face_base n i (x, l ∷ w) is h b = absurd (true≢false (sym b))
 
-    degeneracy_base : (n i : ℕ) (x : Plain (paths a)) → (set_of (paths a)).In n x → i ≤ n → is_base (paths a) ((set_of (paths a)).degeneracy i x) ≡ is_base (paths a) x
+    degeneracy_base : DegeneraciesPass (paths a)
     degeneracy_base n i (x, []) is h = test.degeneracy_base n i x is.0 h
     degeneracy_base n i (x, l ∷ w) is h = refl
 
-    first : (n : ℕ) (x : Plain (paths a)) → (set_of (paths a)).In (suc n) x → is_base (paths a) x ≡ true → x ≡ (set_of (paths a)).degeneracy 0 ((set_of (paths a)).face 0 x)
+    first : IsFirst (paths a)
     first n (x, []) is b =
         ap (λ y. (y, [])) (test.first n x is.0 b)
-        ∙ ap (λ v. ((set_of a).degeneracy 0 ((set_of a).face 0 x), loop_degeneracy (set_of a) 0 (word_times (set_of a) v (loop_face (set_of a) 0 [])))) (sym (unit n x is.0 b))
+        ∙ ap (λ v. ((set_of a).degeneracy 0 ((set_of a).face 0 x), loop_degeneracy (set_of a) 0 (word_times (set_of a) v (loop_face (set_of a) 0 []))))
+        (sym (unit n x is.0 b))
     first n (x, l ∷ w) is b = absurd (true≢false (sym b))
 
 integers_base : IsBaseTest (set_of kz1) (is_base kz1)
@@ -148,5 +159,6 @@ space_base (paths a) ad = paths_base a ad (space_base a ad.0)
 space_base (kzm1 m) ad = residues_base m (let h : 2 ≤ m = ad.0 in omega (arith, h))
 space_base (cyclic_bundle t m c) ad =
     let p : 0 < m = (let h : 2 ≤ m = ad.2 in omega (arith, h)) in
-    twisted_base (table_set t) (nerve_set (integers_modulo m)) (on_vertex t) (is_base (kzm1 m)) (table_base t) (residues_base m p) (cocycle_twisting (integers_modulo m) t c)
-    (nerve_times (integers_modulo m)) (λ n x y ix iy h g. cocycle_still t ad.0 (integers_modulo m) (residues_abelian m p) c ad.1 n x y ix iy h)
+    twisted_base (table_set t) (nerve_set (integers_modulo m)) (on_vertex t) (is_base (kzm1 m)) (table_base t) (residues_base m p)
+    (cocycle_twisting (integers_modulo m) t c) (nerve_times (integers_modulo m))
+    (λ n x y ix iy h g. cocycle_still t ad.0 (integers_modulo m) (residues_abelian m p) c ad.1 n x y ix iy h)

@@ -78,5 +78,6 @@ module _ (t : Table) (is : IsTable t) where
         let d : row_degree t x ≡ suc n = ix.degree in
         let e : row_degree t x - 1 ≡ n = omega (arith, d) in
         let l = (nerve_set_laws group laws).face_in n 0 y iy (omega arith) in
-        ap (λ v. nerve_times group v (nerve_face group 0 y)) (differences-flat (row_degree t x) 1 (row_degree t x - 1) x (ix.row, on_vertex_is t x h) ∙ ap (λ k. copies k group.none) e)
+        ap (λ v. nerve_times group v (nerve_face group 0 y))
+        (differences-flat (row_degree t x) 1 (row_degree t x - 1) x (ix.row, on_vertex_is t x h) ∙ ap (λ k. copies k group.none) e)
         ∙ unit-times group laws n (nerve_face group 0 y) l.0 l.1

@@ -6,7 +6,8 @@ use Rattle.spaces.specs.Nerves.{Abelian, nerve_face, nerve_degeneracy, nerve_set
 use Rattle.spaces.specs.Groups.{IsAbelian}
 use Rattle.spaces.proofs.BaseTests.{IsBaseTest}
 
-module _ {G : Type 0} (group : Abelian G) (laws : IsAbelian group) (test : G → Bool) (test_is : (a : G) → test a ≡ true → a ≡ group.none) (test_none : test group.none ≡ true) where
+module _ {G : Type 0} (group : Abelian G) (laws : IsAbelian group) (test : G → Bool)
+    (test_is : (a : G) → test a ≡ true → a ≡ group.none) (test_none : test group.none ≡ true) where
   abbrev units : List G → Bool
   units x = list_all test x
 

@@ -5,7 +5,7 @@ use Rattle.simp_ops.specs.Words.{IsWord, face_word, absorbed, behind}
 use Rattle.simp_ops.proofs.PlacesOf.{face-at}
 use Rattle.spaces.specs.Tables.{entry, row_at, on_row, row_face, InTable, all_degeneracies, copies, sphere_rows}
 use Rattle.spaces.specs.Allowed.{HasFaces, face_count}
-use Rattle.spaces.proofs.WordLaws.{face-lower}
+use Rattle.simp_ops.proofs.WordLaws.{face-lower}
 
 length-copies : {A : Type 0} (n : ℕ) (x : A) → length (copies n x) ≡ n
 length-copies zero x = refl
@@ -47,7 +47,8 @@ cell_face_in n i h =
     subst (InTable (sphere_rows (suc n)) n) (sym (cell_face n i h))
     (record { row = omega arith; degree = omega (arith, length-all_degeneracies n); word = word-all_degeneracies n })
 
-two_faces : (n i j : ℕ) → i ≤ suc (suc n) → j ≤ suc n → row_face (sphere_rows (suc (suc n))) j (row_face (sphere_rows (suc (suc n))) i ([], 1)) ≡ (all_degeneracies n, 0)
+two_faces : (n i j : ℕ) → i ≤ suc (suc n) → j ≤ suc n
+    → row_face (sphere_rows (suc (suc n))) j (row_face (sphere_rows (suc (suc n))) i ([], 1)) ≡ (all_degeneracies n, 0)
 two_faces n i j h l =
     ap (row_face (sphere_rows (suc (suc n))) j) (cell_face (suc n) i h) ∙ ap (on_row (sphere_rows (suc (suc n))) 0) (face-all_degeneracies n j l)
 

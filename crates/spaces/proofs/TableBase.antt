@@ -1,9 +1,11 @@
 -- The simplices on the rows of dimension 0 of a table.
 use Rattle.std.proofs.Common.{◌≡◌, ℕ, zero, suc, ◌+◌, ◌<◌, Bool, true, ◌==◌, List, [], ◌∷◌, length, refl, sym, ◌∙◌, ap, subst, arith}
 use Rattle.std.proofs.lemmas.Bool.Decides.{Decides-eqb}
-use Rattle.simp_ops.specs.Words.{IsWord, degeneracy_word, face_word, Passed, absorbed, through}
+use Rattle.simp_ops.specs.Words.{IsPassed, IsWord, degeneracy_word, face_word, Passed, absorbed, through}
+use Rattle.simp_ops.proofs.WordLaws.{passes}
+use Rattle.simp_ops.proofs.OperatorLaws.{face_in}
 use Rattle.spaces.specs.Tables.{Table, RowSimplex, row_at, on_row, row_face, row_degeneracy, InTable, all_degeneracies, table_set}
-use Rattle.spaces.proofs.WordLaws.{passes, face_in, IsPassed, word_length}
+use Rattle.spaces.proofs.WordLaws.{word_length}
 use Rattle.spaces.proofs.SphereTable.{face-all_degeneracies}
 use Rattle.spaces.proofs.BaseTests.{IsBaseTest}
 

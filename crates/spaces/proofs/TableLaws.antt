@@ -9,12 +9,14 @@ use Rattle.std.specs.Prelude.{nat_eq}
 use Rattle.std.proofs.lemmas.Cmp.{nat_eq_equiv, nat_list_eq_equiv}
 use Rattle.std.proofs.lemmas.Bool.Decides.{Decides-eqb, Decides-and}
 use Rattle.std.proofs.lemmas.Slice.Eq.{bytes_eq-Decides}
-use Rattle.simp_ops.specs.Words.{face_word, Passed, absorbed, through}
+use Rattle.simp_ops.specs.Words.{IsPassed, face_word, Passed, absorbed, through}
 use Rattle.simp_ops.proofs.PlacesOf.{word_below, degeneracy-before}
+use Rattle.simp_ops.proofs.WordLaws.{before_passed, degeneracy-degeneracy, face-degeneracy, face-next, face-below, face-above}
+use Rattle.simp_ops.proofs.OperatorLaws.{degeneracy_in, compose_in, face_in, degeneracy-compose}
 use Rattle.spaces.specs.Simplicial.{IsSimplicial}
 use Rattle.spaces.specs.Tables.{Table, RowSimplex, row_at, listed_face, row_degeneracy, on_row, row_face, InTable, table_set}
 use Rattle.spaces.specs.Allowed.{HasFaces}
-use Rattle.spaces.proofs.WordLaws.{before_passed, degeneracy-degeneracy, face-degeneracy, face-next, face-below, face-above, degeneracy_in, compose_in, face_in, IsPassed, degeneracy-compose, length-degeneracy, length-compose, word_length}
+use Rattle.spaces.proofs.WordLaws.{length-degeneracy, length-compose, word_length}
 use Rattle.spaces.proofs.Degeneracies.{MeetsFaces, FacesSwap, swap_after}
 
 module _ (t : Table) where
@@ -86,6 +88,8 @@ module _ (t : Table) where
       face_below = meets.face_below;
       face_above = meets.face_above;
       degeneracy_degeneracy = λ n i j x is h l. ap (λ w. (w, x.1)) (degeneracy-degeneracy i j x.0 h);
-      same_is = λ x y h k. let both = (Decides-and (pointwise nat_eq x.0 y.0) (x.1 == y.1) (bytes_eq-Decides x.0 y.0) (Decides-eqb x.1 y.1)).0 h in (both.0 k, both.1 k);
+      same_is = λ x y h k.
+          let both = (Decides-and (pointwise nat_eq x.0 y.0) (x.1 == y.1) (bytes_eq-Decides x.0 y.0) (Decides-eqb x.1 y.1)).0 h in
+          (both.0 k, both.1 k);
       same_equivalence = and_equiv (on_equiv (λ x. x.0) nat_list_eq_equiv) (on_equiv (λ x. x.1) nat_eq_equiv);
     }

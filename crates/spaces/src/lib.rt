@@ -9,6 +9,6 @@ mod spheres;
 
 pub use laws::{
     integers_group, integers_laws, product_laws, residues_group, residues_laws, sphere_laws,
-    table_laws,
+    suspension_laws, table_laws,
 };
 pub use spheres::sphere_homology;
