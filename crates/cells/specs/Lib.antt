@@ -1,0 +1,6 @@
+pub mod Dim
+pub mod Forests
+pub mod ForestLaws
+pub mod Order
+pub mod Small
+pub mod Laws

@@ -1,0 +1,4 @@
+pub mod Steps
+pub mod PathTests
+pub mod MaskTests
+pub mod FaceMoves

@@ -1,0 +1,3 @@
+pub mod MaskPaths
+pub mod Pairing
+pub mod Events
