@@ -2,7 +2,7 @@
 ghost use Rattle.spaces.specs.Simplicial.{IsSimplicial};
 ghost use Rattle.spaces.specs.WordGroups.{IsGroup, inverse_word};
 ghost use Rattle.spaces.specs.LoopGroups.{IsReduced, word_times};
-ghost use Rattle.spaces.specs.Spaces.{Space, set_of};
+ghost use Rattle.spaces.specs.Spaces.{Space, loops, set_of};
 ghost use Rattle.std.specs.Prelude.{[]};
 
 /// The reduced words of letters are a group with the empty word as unit, and the inverse of a word
@@ -10,4 +10,9 @@ ghost use Rattle.std.specs.Prelude.{[]};
 pub fn reduced_word_laws()
     ensures { (a : Space) → IsSimplicial (set_of a)
         → IsGroup (IsReduced (set_of a)) (word_times (set_of a)) [] (inverse_word (set_of a)) }
+{}
+
+/// The loop group of a simplicial set is a simplicial set (May, Simplicial Objects, chapter VI).
+pub fn loop_laws()
+    ensures { (a : Space) → IsSimplicial (set_of a) → IsSimplicial (set_of (loops a)) }
 {}
