@@ -1,5 +1,6 @@
 // The laws of loop groups.
 ghost use Rattle.spaces.specs.Simplicial.{IsSimplicial};
+ghost use Rattle.spaces.specs.Groups.{IsSimplicialGroup};
 ghost use Rattle.spaces.specs.WordGroups.{IsGroup, inverse_word};
 ghost use Rattle.spaces.specs.LoopGroups.{IsReduced, word_times};
 ghost use Rattle.spaces.specs.Spaces.{Space, loops, set_of};
@@ -15,4 +16,11 @@ pub fn reduced_word_laws()
 /// The loop group of a simplicial set is a simplicial set (May, Simplicial Objects, chapter VI).
 pub fn loop_laws()
     ensures { (a : Space) → IsSimplicial (set_of a) → IsSimplicial (set_of (loops a)) }
+{}
+
+/// The loop group of a simplicial set is a simplicial group: faces and degeneracies carry products
+/// of words to products (May, Simplicial Objects, chapters IV and VI).
+pub fn loop_group_laws()
+    ensures { (a : Space) → IsSimplicial (set_of a)
+        → IsSimplicialGroup (set_of (loops a)) (word_times (set_of a)) (λ n. []) (inverse_word (set_of a)) }
 {}
