@@ -1,9 +1,10 @@
-// The laws of loop groups.
+// Loop groups and path spaces: the laws of a group, of a simplicial set and of a twisting operator.
 ghost use Rattle.spaces.specs.Simplicial.{IsSimplicial};
+ghost use Rattle.spaces.specs.Products.{IsTwisting};
 ghost use Rattle.spaces.specs.Groups.{IsSimplicialGroup};
 ghost use Rattle.spaces.specs.WordGroups.{IsGroup, inverse_word};
-ghost use Rattle.spaces.specs.LoopGroups.{IsReduced, word_times};
-ghost use Rattle.spaces.specs.Spaces.{Space, loops, set_of};
+ghost use Rattle.spaces.specs.LoopGroups.{IsReduced, word_times, letter_word};
+ghost use Rattle.spaces.specs.Spaces.{Space, loops, paths, set_of};
 ghost use Rattle.std.specs.Prelude.{[]};
 
 /// The reduced words of letters are a group with the empty word as unit, and the inverse of a word
@@ -23,4 +24,17 @@ pub fn loop_laws()
 pub fn loop_group_laws()
     ensures { (a : Space) → IsSimplicial (set_of a)
         → IsSimplicialGroup (set_of (loops a)) (word_times (set_of a)) (λ n. []) (inverse_word (set_of a)) }
+{}
+
+/// The letter of a simplex is a twisting operator from a simplicial set to its loop group (May,
+/// Simplicial Objects, chapter VI).
+pub fn letter_laws()
+    ensures { (a : Space) → IsSimplicial (set_of a)
+        → IsTwisting (set_of a) (set_of (loops a)) (letter_word (set_of a)) (word_times (set_of a)) }
+{}
+
+/// The path space of a simplicial set is a simplicial set (May, Simplicial Objects, chapters IV and
+/// VI).
+pub fn path_laws()
+    ensures { (a : Space) → IsSimplicial (set_of a) → IsSimplicial (set_of (paths a)) }
 {}
