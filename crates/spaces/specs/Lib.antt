@@ -5,6 +5,7 @@ pub mod Groups
 pub mod Products
 pub mod Suspensions
 pub mod LoopGroups
+pub mod WordGroups
 pub mod Cocycles
 pub mod Spaces
 pub mod Homology

@@ -5,10 +5,12 @@
 #![tactic(auto)]
 
 mod laws;
+mod loops;
 mod spheres;
 
 pub use laws::{
     integers_group, integers_laws, product_laws, residues_group, residues_laws, sphere_laws,
     suspension_laws, table_laws,
 };
+pub use loops::{letter_laws, loop_group_laws, loop_laws, path_laws, reduced_word_laws};
 pub use spheres::sphere_homology;
