@@ -4,11 +4,13 @@
 //! function here has an empty body, and its contract is a law.
 #![tactic(auto)]
 
+mod allowed;
 mod bundles;
 mod laws;
 mod loops;
 mod spheres;
 
+pub use allowed::space_laws;
 pub use bundles::{bundle_laws, cocycle_laws, cyclic_bundle_laws, cyclic_cocycle_laws};
 pub use laws::{
     integers_group, integers_laws, product_laws, residues_group, residues_laws, sphere_laws,
