@@ -121,6 +121,9 @@ one_most t = grind arith
 pub one_error_most : (t : List ℕ) → one_error t ≤ 1
 one_error_most t = grind arith
 
+pub next_text : (texts done lines rest : List (List ℕ)) (line : List ℕ) → texts ≡ done ++ texts_of lines → lines ≡ line ∷ rest → texts ≡ done ++ text_to line ∷ texts_of rest
+next_text texts done lines rest line is e = is ∙ ap (λ ls. done ++ texts_of ls) e
+
 pub goes_on : (a b c : PortState) (script rest line after : List ℕ) (long : Bool) (old new : SessionReport) → SoFar a b script long rest old → cut long rest ≡ line ∷ cut long after → length after < length rest → Answered b c (text_to line) old new → new.end ≡ Finished → SoFar a c script long after new
 goes_on a b c script rest line after long old new sofar is less answered end =
     let writes : WritesOn b c (text_to line) = subst (λ e. WritesBy e b c (text_to line)) end answered.writes in

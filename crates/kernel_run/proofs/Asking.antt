@@ -11,7 +11,7 @@ use Rattle.kernel_run.specs.declared.question.Question.{Question}
 use Rattle.kernel_run.proofs.Finding.{find_none, find_one, find_no_row, find_row}
 use Rattle.kernel_run.proofs.Leading.{leading-decimal, leading-parts, some_same, none_some, pair, IsRead}
 
-abbrev question : ℕ → ℕ → Question
+abbrev pub question : ℕ → ℕ → Question
 question n k = record { sphere = n; degree = k }
 
 abbrev asks : List ℕ → Question → Bool
@@ -107,3 +107,6 @@ asked_whole line rest next last end m j front is e middle then read stop some =
     let text : line ≡ question_text m j = sym (take-append-drop 18 line) ∙ ap (λ l. take 18 line ++ l) (sym is ∙ sphere.parts ∙ ap (λ t. decimal m ++ t) tail) ∙ ap (λ l. l ++ (decimal m ++ (between ++ (decimal j ++ after)))) first in
     let q : IsQuestion line m j = record { some = some; sphere = sphere.most; degree = degree.most; text = text } in
     asked line m j q (λ n k r. only_one line m j n k q r)
+
+pub question_asked : (line : List ℕ) (n k : ℕ) → IsQuestion line n k → question_of line ≡ Some (question n k)
+question_asked line n k q = asked line n k q (λ m j r. only_one line n k m j q r)

@@ -5,5 +5,6 @@ pub mod Finding
 pub mod Leading
 pub mod Reading
 pub mod Texts
+pub mod Truth
 pub mod Whole
 pub mod Writing

@@ -1,8 +1,8 @@
 -- What the program does to its ports, and the status that it ends with.
 --
 -- This is the end of the thread: what `run_kernel` says of the port that it uses. Below it stand `Words` (which words
--- are a form), `Fresh` (what is written for a script), `Replies` and `Cycles` (what is written for a line) and
--- `Questions` (which line asks what).
+-- are a form), `Fresh` (what is written for a script), `Replies` and `Cycles` (what is written for a line), `Questions`
+-- (which line asks what) and `Truth` (what the replies say of the spheres themselves).
 --
 -- Main definitions: `OneSession`, `ShowsUsage`.
 -- Worked value: one session whose console has "(names)\n" and no fault writes "error not-built\n", with status 0.
@@ -10,6 +10,7 @@ use Rattle.std.specs.Prelude.{◌≡◌, ◌⊎◌, ℕ, ◌≤◌, ◌<◌, Lis
 use Rattle.std.specs.Io.KnownBytes.{append_known, IsAtEnd}
 use Rattle.port_io.specs.Ports.{PortState, Rose, raised}
 use Rattle.kernel_run.specs.Fresh.{fresh}
+use Rattle.kernel_run.specs.Truth.{AreHomologyLists}
 use Rattle.kernel_run.specs.Words.{usage}
 
 -- a count of faults of this port rose
@@ -30,6 +31,7 @@ pub record WritesFresh (input : List ℕ) (before after : PortState) (code : ℕ
 pub record OneSession (before after : PortState) (code : ℕ) : Type 0 where
   pub listed : (code ≡ 0) ⊎ (code ≡ 3) ⊎ (code ≡ 4) ⊎ (code ≡ 5)
   pub output : IfSome before.left (λ input. WritesFresh input before after code)
+  pub homology : IfSome before.left AreHomologyLists
   pub fault : code ≡ 3 → HasFault before after
   pub no_fault : (code ≡ 0) ⊎ (code ≡ 4) → (after.read_faults ≡ before.read_faults) × (after.write_faults ≡ before.write_faults)
   pub long : code ≡ 4 → raised before.bytes_read 16777217 ≤ after.bytes_read

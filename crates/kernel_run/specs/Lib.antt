@@ -9,4 +9,5 @@ pub mod Progress
 pub mod Questions
 pub mod Replies
 pub mod Session
+pub mod Truth
 pub mod Words

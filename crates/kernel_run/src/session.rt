@@ -5,6 +5,7 @@ ghost use Rattle.port_io.specs.Ports.{Rose, raised};
 ghost use Rattle.kernel_run.specs.Fresh.{text_to, answered_part};
 ghost use Rattle.kernel_run.specs.Session.{ReadsNothing};
 ghost use Rattle.kernel_run.specs.Outcome.{Outcome, HasLengthFor};
+ghost use Rattle.kernel_run.specs.Truth.{AreHomologyLists};
 ghost use Rattle.kernel_run.specs.Progress.{Answered, EndedLong};
 
 use crate::lines::next_line;
@@ -24,6 +25,7 @@ const TOO_LONG: &[u8] = b"error over script 16777217\n";
 /// were read, and else with `Finished`.
 pub fn run_session<P: Port>(alloc: Global, port: &mut P) -> SessionReport
     ensures output { IfSome (P.state port.old).left (λ input. Outcome input (P.state port.old).written (P.state port.new).written result) }
+    ensures homology { IfSome (P.state port.old).left AreHomologyLists }
     ensures size { IfSome (P.state port.old).left (λ input. HasLengthFor result.end input) }
     ensures at_end { result.end ≡ End.Finished → IsAtEnd (P.state port.new).left }
 

@@ -1,8 +1,8 @@
 use Rattle.std.proofs.Common.{◌≡◌, ◌≢◌, ◌++◌, map, ap, true, false, arith, rules, refl, ◌∙◌}
-use Rattle.kernel_run.specs.Fresh.{is_long, texts_of}
+use Rattle.kernel_run.specs.Fresh.{is_long, texts_to}
 use Rattle.std.proofs.lemmas.Bool.{le-leb, lt-leb}
 use Rattle.kernel_run.specs.declared.report.End.TheVariants.{Finished}
-use Rattle.kernel_run.proofs.Answering.{starts, goes_on, stopped, stopped_in, finished, long_written}
+use Rattle.kernel_run.proofs.Answering.{next_text, starts, goes_on, stopped, stopped_in, finished, long_written}
 use Rattle.kernel_run.proofs.session.answer_script.Goals as goal
 
 pub loop-line-init : goal.loop-line-init
@@ -17,7 +17,7 @@ pub returns-then-ne-clause-output : goal.returns-then-ne-clause-output
 returns-then-ne-clause-output g c =
     let not : c.answer_line-report.result.end ≢ Finished = search rules in
     let s = c.loop-line.invariant in
-    let texts = s.texts ∙ ap (λ ls. s.done ++ texts_of ls) c.in-Some.ensures.0 in
+    let texts = next_text (texts_to c.args.script.now) s.done _ _ _ s.texts c.in-Some.ensures.0 in
     stopped _ _ _ _ _ s.done _ _ _ texts s.wrote s.replies s.errors (stopped_in _ _ _ _ _ _ refl not c.answer_line-report.ensures.writes c.answer_line-report.ensures.counts)
 
 pub returns-then-long-clause-output : goal.returns-then-long-clause-output
