@@ -1,0 +1,10 @@
+pub mod Answering
+pub mod Asking
+pub mod Cutting
+pub mod Finding
+pub mod Leading
+pub mod Reading
+pub mod Texts
+pub mod Truth
+pub mod Whole
+pub mod Writing

@@ -1,0 +1,31 @@
+use Rattle.std.proofs.Common.{◌≡◌, ◌≢◌, ◌++◌, map, ap, true, false, arith, rules, refl, ◌∙◌}
+use Rattle.kernel_run.specs.Fresh.{is_long, texts_to}
+use Rattle.std.proofs.lemmas.Bool.{le-leb, lt-leb}
+use Rattle.kernel_run.specs.declared.report.End.TheVariants.{Finished}
+use Rattle.kernel_run.proofs.Answering.{next_text, starts, goes_on, stopped, stopped_in, finished, long_written}
+use Rattle.kernel_run.proofs.session.answer_script.Goals as goal
+
+pub loop-line-init : goal.loop-line-init
+loop-line-init g c = starts _ _ _ _ c.part_to_answer-rest.ensures.part (omega (arith, c.part_to_answer-rest.ensures.most, c.requires)) refl refl refl
+
+pub loop-line-preserved : goal.loop-line-preserved
+loop-line-preserved g c =
+    let end : c.answer_line-report.result.end ≡ Finished = search rules in
+    goes_on _ _ _ _ _ _ _ _ _ _ c.loop-line.invariant c.in-Some.ensures.0 c.in-Some.ensures.1 c.answer_line-report.ensures end
+
+pub returns-then-ne-clause-output : goal.returns-then-ne-clause-output
+returns-then-ne-clause-output g c =
+    let not : c.answer_line-report.result.end ≢ Finished = search rules in
+    let s = c.loop-line.invariant in
+    let texts = next_text (texts_to c.args.script.now) s.done _ _ _ s.texts c.in-Some.ensures.0 in
+    stopped _ _ _ _ _ s.done _ _ _ texts s.wrote s.replies s.errors (stopped_in _ _ _ _ _ _ refl not c.answer_line-report.ensures.writes c.answer_line-report.ensures.counts)
+
+pub returns-then-long-clause-output : goal.returns-then-long-clause-output
+returns-then-long-clause-output g c =
+    let long : is_long c.args.script.now ≡ true = le-leb _ _ (omega (arith, c.if-long.true)) in
+    long_written _ _ _ _ _ _ _ _ _ refl c.loop-line.invariant c.in_default.ensures long c.end_long.ensures.writes c.end_long.ensures.replies c.end_long.ensures.errors
+
+pub returns-else-long-clause-output : goal.returns-else-long-clause-output
+returns-else-long-clause-output g c =
+    let short : is_long c.args.script.now ≡ false = lt-leb _ _ (omega (arith, c.if-long.false)) in
+    finished _ _ _ _ _ _ c.loop-line.invariant c.in_default.ensures short

@@ -1,0 +1,50 @@
+-- The reply to a line, and its text.
+--
+-- A question gets the listed cycles, an empty line no reply, and every other line one refusal. A chain is printed as its
+-- terms in order, one blank between them, each a coefficient and a cell in parentheses.
+--
+-- Main definitions: `Reply`, `reply_to`, `text_of`.
+-- Worked value: the text of the reply to "(homology (sphere 3) 3)" is "homology 1\n(1 S3)\n".
+use Rattle.std.specs.Prelude.{ℕ, List, [], ◌∷◌, ◌++◌, length, Option, None, Some, if◌then◌else◌, Bool, codes, decimal, ◌==◌}
+use Rattle.std.specs.List.{flat_map}
+use Rattle.fp_field.specs.Chains.{Terms}
+use Rattle.kernel_run.specs.Questions.{question_of}
+use Rattle.kernel_run.specs.Cycles.{cycles_of}
+use Rattle.kernel_run.specs.declared.question.Question.{Question}
+use Rattle.kernel_run.specs.declared.cycles.SphereCell.{SphereCell}
+use Rattle.kernel_run.specs.declared.cycles.SphereCell.TheVariants.{Base, Top}
+use Rattle.kernel_run.specs.declared.reply.Reply.{Reply}
+use Rattle.kernel_run.specs.declared.reply.Reply.TheVariants.{Empty, Homology, NotBuilt}
+
+abbrev pub is_empty : List ℕ → Bool
+is_empty bytes = length bytes == 0
+
+abbrev pub reply_to_question : Option Question → Reply
+reply_to_question (Some q) = Homology (cycles_of q.sphere q.degree)
+reply_to_question None = NotBuilt
+
+-- the reply to a line
+unfoldable pub reply_to : List ℕ → Reply
+reply_to line = if is_empty line then Empty else reply_to_question (question_of line)
+
+abbrev pub cell_text : SphereCell → List ℕ
+cell_text Base = codes "*"
+cell_text (Top n) = codes "S" ++ decimal n
+
+abbrev pub term_text : SphereCell → ℕ → List ℕ
+term_text cell coefficient = codes "(" ++ (decimal coefficient ++ (codes " " ++ (cell_text cell ++ codes ")")))
+
+-- a chain that is not 0
+abbrev pub chain_text : Terms SphereCell → List ℕ
+chain_text [] = []
+chain_text (t ∷ []) = term_text t.0 t.1
+chain_text (t ∷ u ∷ c) = term_text t.0 t.1 ++ (codes " " ++ chain_text (u ∷ c))
+
+abbrev pub homology_text : List (Terms SphereCell) → List ℕ
+homology_text zs = (codes "homology " ++ (decimal (length zs) ++ codes "\n")) ++ flat_map (λ z. chain_text z ++ codes "\n") zs
+
+-- the bytes of a reply
+unfoldable pub text_of : Reply → List ℕ
+text_of Empty = []
+text_of (Homology zs) = homology_text zs
+text_of NotBuilt = codes "error not-built\n"

@@ -1,0 +1,70 @@
+// The reply to one line, and its text.
+ghost use Rattle.std.specs.Prelude.{◌≡◌, ◌++◌, IfOk, string_bytes, codes};
+ghost use Rattle.kernel_run.specs.Cycles.{one_cell};
+ghost use Rattle.kernel_run.specs.Replies.{reply_to, text_of, homology_text, chain_text};
+ghost use Rattle.kernel_run.specs.Fresh.{text_to};
+
+use crate::cycles::{CycleList, SphereCell, cycles_of};
+use crate::question::question_of;
+use std::alloc::{AllocError, Global};
+
+/// The reply to a line.
+#[derive(Debug, Drop)]
+pub(crate) enum Reply {
+    Empty,
+    Homology(CycleList),
+    NotBuilt,
+}
+
+/// What is written for a line.
+pub(crate) fn text_to(alloc: Global, line: &[u8]) -> Result<String, AllocError>
+    ensures { IfOk result (λ text. string_bytes text ≡ text_to line.now) }
+{
+    let reply = reply_to(alloc, line)?;
+    text_of(alloc, &reply)
+}
+
+#[tactic(auto, unfolding(crate::specs::Replies::reply_to))]
+fn reply_to(alloc: Global, line: &[u8]) -> Result<Reply, AllocError>
+    ensures { IfOk result (λ reply. reply ≡ reply_to line.now) }
+{
+    if line.is_empty() {
+        return Ok(Reply::Empty);
+    }
+    match question_of(line) {
+        Some(question) => Ok(Reply::Homology(cycles_of(alloc, question)?)),
+        None => Ok(Reply::NotBuilt),
+    }
+}
+
+#[tactic(auto, unfolding(crate::specs::Replies::text_of))]
+fn text_of(alloc: Global, reply: &Reply) -> Result<String, AllocError>
+    ensures { IfOk result (λ text. string_bytes text ≡ text_of reply.now) }
+{
+    match reply {
+        Reply::Empty => Ok(String::new(alloc)),
+        Reply::Homology(cycles) => homology_text(alloc, cycles),
+        Reply::NotBuilt => String::from_str(alloc, "error not-built\n"),
+    }
+}
+
+fn homology_text(alloc: Global, cycles: &CycleList) -> Result<String, AllocError>
+    ensures { IfOk result (λ text. string_bytes text ≡ homology_text cycles.now) }
+{
+    let cells = cycles.cells();
+    let mut text = format!(in alloc; "homology {}\n", cells.len())?;
+    for cell in cells {
+        text.push_str(&cycle_line(alloc, *cell)?)?;
+    }
+    Ok(text)
+}
+
+// The line of a cycle that is one cell.
+fn cycle_line(alloc: Global, cell: SphereCell) -> Result<String, AllocError>
+    ensures { IfOk result (λ text. string_bytes text ≡ chain_text (one_cell cell) ++ codes "\n") }
+{
+    match cell {
+        SphereCell::Base => String::from_str(alloc, "(1 *)\n"),
+        SphereCell::Top(dimension) => format!(in alloc; "(1 S{dimension})\n"),
+    }
+}

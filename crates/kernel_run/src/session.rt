@@ -1,0 +1,136 @@
+// One session over a port.
+ghost use Rattle.std.specs.Prelude.{◌≡◌, ◌≢◌, ◌≤◌, ◌<◌, length, IfSome};
+ghost use Rattle.std.specs.Io.KnownBytes.{IsAtEnd};
+ghost use Rattle.port_io.specs.Ports.{Rose, raised};
+ghost use Rattle.kernel_run.specs.Fresh.{text_to, answered_part};
+ghost use Rattle.kernel_run.specs.Session.{ReadsNothing};
+ghost use Rattle.kernel_run.specs.Outcome.{Outcome, HasLengthFor};
+ghost use Rattle.kernel_run.specs.Truth.{AreHomologyLists};
+ghost use Rattle.kernel_run.specs.Progress.{Answered, EndedLong};
+
+use crate::lines::next_line;
+use crate::read::read_script;
+use crate::reply::text_to;
+use crate::write::write_text;
+use crate::{End, SessionReport};
+use port_io::Port;
+use std::alloc::Global;
+
+const MOST_BYTES: usize = 16_777_216;
+
+const TOO_LONG: &[u8] = b"error over script 16777217\n";
+
+/// One whole session over a port: it reads the script, and then writes the reply to each line. It ends with a fault
+/// where a read or a write failed, with `Memory` where memory was wanting, with `Long` where more than 16,777,216 bytes
+/// were read, and else with `Finished`.
+pub fn run_session<P: Port>(alloc: Global, port: &mut P) -> SessionReport
+    ensures output { IfSome (P.state port.old).left (λ input. Outcome input (P.state port.old).written (P.state port.new).written result) }
+    ensures homology { IfSome (P.state port.old).left AreHomologyLists }
+    ensures size { IfSome (P.state port.old).left (λ input. HasLengthFor result.end input) }
+    ensures at_end { result.end ≡ End.Finished → IsAtEnd (P.state port.new).left }
+
+    ensures read_fault { result.end ≡ End.ReadFault → Rose (P.state port.old).read_faults (P.state port.new).read_faults }
+    ensures no_read_fault { result.end ≢ End.ReadFault → (P.state port.new).read_faults ≡ (P.state port.old).read_faults }
+    ensures write_fault { result.end ≡ End.WriteFault → Rose (P.state port.old).write_faults (P.state port.new).write_faults }
+    ensures no_write_fault { result.end ≢ End.WriteFault → (P.state port.new).write_faults ≡ (P.state port.old).write_faults }
+
+    ensures long { result.end ≡ End.Long → raised (P.state port.old).bytes_read 16777217 ≤ (P.state port.new).bytes_read }
+    ensures finished { result.end ≡ End.Finished → (P.state port.new).bytes_read ≤ raised (P.state port.old).bytes_read 16777216 }
+    ensures ended { result.end ≡ End.Finished → Rose (P.state port.old).empty_reads (P.state port.new).empty_reads }
+{
+    match read_script(alloc, port) {
+        Ok(script) => answer_script(alloc, port, &script),
+        Err(end) => SessionReport {
+            replies: 0,
+            errors: 0,
+            end,
+        },
+    }
+}
+
+// Answers the lines of a script that was read.
+fn answer_script<P: Port>(alloc: Global, port: &mut P, script: &[u8]) -> SessionReport
+    requires { length script.now ≤ 16777217 }
+    ensures output { Outcome script.now (P.state port.old).written (P.state port.new).written result }
+    ensures reads { ReadsNothing (P.state port.old) (P.state port.new) }
+    ensures write_fault { result.end ≡ End.WriteFault → Rose (P.state port.old).write_faults (P.state port.new).write_faults }
+    ensures no_write_fault { result.end ≢ End.WriteFault → (P.state port.new).write_faults ≡ (P.state port.old).write_faults }
+    ensures no_read_fault { result.end ≢ End.ReadFault }
+    ensures long { result.end ≡ End.Long → 16777216 < length script.now }
+    ensures finished { result.end ≡ End.Finished → length script.now ≤ 16777216 }
+{
+    let long = script.len() > MOST_BYTES;
+    let mut rest = part_to_answer(script);
+    let mut report = SessionReport {
+        replies: 0,
+        errors: 0,
+        end: End::Finished,
+    };
+    while let Some((line, after)) = next_line(rest, long) {
+        report = answer_line(alloc, port, line, report);
+        if report.end != End::Finished {
+            return report;
+        }
+        rest = after;
+    }
+    if long { end_long(port, report) } else { report }
+}
+
+// The part of a script whose lines are answered.
+fn part_to_answer(script: &[u8]) -> &[u8]
+    ensures part { result.now ≡ answered_part script.now }
+    ensures most { length result.now ≤ length script.now }
+{
+    if script.len() > MOST_BYTES {
+        script.split_at(MOST_BYTES).0
+    } else {
+        script
+    }
+}
+
+// Writes the reply to one line, and counts it.
+fn answer_line<P: Port>(
+    alloc: Global,
+    port: &mut P,
+    line: &[u8],
+    report: SessionReport,
+) -> SessionReport
+    requires replies { report.replies < 16777217 }
+    requires errors { report.errors < 16777217 }
+    requires end { report.end ≡ End.Finished }
+    ensures { Answered (P.state port.old) (P.state port.new) (text_to line.now) report result }
+{
+    match text_to(alloc, line) {
+        Ok(text) => match write_text(port, text.as_bytes()) {
+            Ok(()) => SessionReport {
+                replies: report.replies + u64::from(!text.is_empty()),
+                errors: report.errors + u64::from(text.as_bytes().starts_with(b"error")),
+                end: End::Finished,
+            },
+            Err(_) => SessionReport {
+                end: End::WriteFault,
+                ..report
+            },
+        },
+        Err(_) => SessionReport {
+            end: End::Memory,
+            ..report
+        },
+    }
+}
+
+// Writes that the script is too long.
+fn end_long<P: Port>(port: &mut P, report: SessionReport) -> SessionReport
+    ensures { EndedLong (P.state port.old) (P.state port.new) report result }
+{
+    match write_text(port, TOO_LONG) {
+        Ok(()) => SessionReport {
+            end: End::Long,
+            ..report
+        },
+        Err(_) => SessionReport {
+            end: End::WriteFault,
+            ..report
+        },
+    }
+}

@@ -1,0 +1,138 @@
+// What the program does to the ports that it is handed, over memory ports.
+use super::*;
+use port_io::{PortBox, WordList, mem_port};
+use std::alloc::{AllocError, Global};
+use std::test::Fail;
+
+// The words of a command line.
+fn words_of(alloc: Global, texts: &[&str]) -> Result<WordList, AllocError> {
+    let mut words = WordList::new(alloc);
+    for text in texts {
+        words.push(String::from_str(alloc, text)?)?;
+    }
+    Ok(words)
+}
+
+#[test]
+fn a_session_answers_each_line(rt: HostRuntime) -> Result<(), Fail> {
+    let alloc = rt.alloc();
+    let rows = [
+        ("(homology (sphere 3) 3)\n", "homology 1\n(1 S3)\n"),
+        ("(homology (sphere 3) 0)\n", "homology 1\n(1 *)\n"),
+        ("(homology (sphere 3) 2)\n", "homology 0\n"),
+        ("(homology (sphere 2) 1)\n", "homology 0\n"),
+        ("(homology (sphere 16) 16)", "homology 1\n(1 S16)\n"),
+        ("(homology (sphere 17) 1)", "error not-built\n"),
+        ("(homology (sphere 0) 0)", "error not-built\n"),
+        ("(homology (sphere 3) 17)", "error not-built\n"),
+        ("(homology (sphere 03) 3)", "error not-built\n"),
+        ("(homology  (sphere 3) 3)", "error not-built\n"),
+        ("(names)\n", "error not-built\n"),
+        ("", ""),
+        (
+            "\n\n(names)\n\n(homology (sphere 1) 1)",
+            "error not-built\nhomology 1\n(1 S1)\n",
+        ),
+    ];
+    let words = words_of(alloc, &["session"])?;
+    for (input, output) in rows {
+        let mut ports: Vec<PortBox> = Vec::new(alloc);
+        ports.push(Box::new(
+            alloc,
+            mem_port(alloc, input.as_bytes(), 16, 4096, &[], &[])?,
+        )?)?;
+        ports.push(Box::new(alloc, mem_port(alloc, b"", 1, 0, &[], &[])?)?)?;
+        assert_eq!(rt; words.len(), 1);
+        let status = run_kernel(&rt, alloc, &words, &mut ports);
+        assert_eq!(rt; status.code, 0, "at {input}");
+        assert_eq!(rt; ports[0].output(), Some(output.as_bytes()), "at {input}");
+    }
+    Ok(())
+}
+
+#[test]
+fn a_failing_read_and_a_failing_write_give_status_3(rt: HostRuntime) -> Result<(), Fail> {
+    let alloc = rt.alloc();
+    let input = b"(names)\n(names)\n(homology (sphere 1) 1)\n";
+    let rows: [(&[u64], &[u64], &[u8]); 3] = [
+        (&[3], &[], b""),
+        (&[], &[1], b""),
+        (&[], &[2], b"error not-built\n"),
+    ];
+    let words = words_of(alloc, &["session"])?;
+    for (bad_reads, bad_writes, output) in rows {
+        let mut ports: Vec<PortBox> = Vec::new(alloc);
+        ports.push(Box::new(
+            alloc,
+            mem_port(alloc, input, 16, 4096, bad_reads, bad_writes)?,
+        )?)?;
+        ports.push(Box::new(alloc, mem_port(alloc, b"", 1, 0, &[], &[])?)?)?;
+        assert_eq!(rt; words.len(), 1);
+        let status = run_kernel(&rt, alloc, &words, &mut ports);
+        assert_eq!(rt; status.code, 3);
+        assert_eq!(rt; ports[0].output(), Some(output));
+    }
+    Ok(())
+}
+
+#[test]
+fn a_script_that_is_too_long_gives_status_4(rt: HostRuntime) -> Result<(), Fail> {
+    let alloc = rt.alloc();
+    let mut input = Vec::new(alloc);
+    input.resize(16_777_217, b'\n')?;
+    let words = words_of(alloc, &["session"])?;
+    let mut ports: Vec<PortBox> = Vec::new(alloc);
+    ports.push(Box::new(alloc, mem_port(alloc, &input, 4096, 4096, &[], &[])?)?)?;
+    ports.push(Box::new(alloc, mem_port(alloc, b"", 1, 0, &[], &[])?)?)?;
+    assert_eq!(rt; words.len(), 1);
+    let status = run_kernel(&rt, alloc, &words, &mut ports);
+    assert_eq!(rt; status.code, 4);
+    assert_eq!(rt;
+        ports[0].output(),
+        Some(b"error over script 16777217\n".as_slice())
+    );
+    Ok(())
+}
+
+#[test]
+fn other_words_give_the_usage_line_and_status_2(rt: HostRuntime) -> Result<(), Fail> {
+    let alloc = rt.alloc();
+    let usage = b"usage: kenzo_main session | batch SCRIPT.. | sweep N\n".as_slice();
+    let rows: [&[&str]; 4] = [&["batch"], &["batch", "a", "a"], &["sweep", "01"], &[]];
+    for row in rows {
+        let words = words_of(alloc, row)?;
+        let mut ports: Vec<PortBox> = Vec::new(alloc);
+        ports.push(Box::new(alloc, mem_port(alloc, b"(names)\n", 16, 4096, &[], &[])?)?)?;
+        for _ in 0..words.len() {
+            ports.push(Box::new(alloc, mem_port(alloc, b"", 1, 0, &[], &[])?)?)?;
+        }
+        assert_eq!(rt; ports.len().checked_sub(1), Some(words.len()));
+        let status = run_kernel(&rt, alloc, &words, &mut ports);
+        assert_eq!(rt; status.code, 2);
+        assert_eq!(rt; ports[0].output(), Some(usage));
+    }
+    Ok(())
+}
+
+#[test]
+fn a_session_reports_its_replies_and_errors(rt: HostRuntime) -> Result<(), Fail> {
+    let alloc = rt.alloc();
+    let mut port = mem_port(
+        alloc,
+        b"(names)\n\n(homology (sphere 1) 1)\n",
+        16,
+        4096,
+        &[],
+        &[],
+    )?;
+    let report = run_session(alloc, &mut port);
+    assert_eq!(rt;
+        report,
+        SessionReport {
+            replies: 2,
+            errors: 1,
+            end: End::Finished
+        }
+    );
+    Ok(())
+}
