@@ -10,6 +10,7 @@ pub mod Cocycles
 pub mod Spaces
 pub mod Homology
 pub mod Allowed
+pub mod Counts
 pub mod Orders
 pub mod SmallCells
 pub mod SphereCycles

@@ -6,12 +6,14 @@
 
 mod allowed;
 mod bundles;
+mod counts;
 mod laws;
 mod loops;
 mod spheres;
 
 pub use allowed::space_laws;
 pub use bundles::{bundle_laws, cocycle_laws, cyclic_bundle_laws, cyclic_cocycle_laws};
+pub use counts::count_laws;
 pub use laws::{
     integers_group, integers_laws, product_laws, residues_group, residues_laws, sphere_laws,
     suspension_laws, table_laws,
