@@ -4,7 +4,6 @@
 -- is refused here.
 use Rattle.std.proofs.Common.{◌≡◌, refl}
 use Rattle.std.specs.Prelude.{ℕ, Bool, true, false, List, [], ◌∷◌, Some, None, ℤ, pos, negsuc}
-use Rattle.fp_field.specs.Chains.{Terms}
 use Rattle.spaces.specs.Simplicial.{is_degenerate}
 use Rattle.spaces.specs.Tables.{Table, RowSimplex, row_face, row_degeneracy, sphere_rows}
 use Rattle.spaces.specs.Spaces.{Space, table, sphere, product, suspension, kz1, bundle, loops, paths, kzm1, cyclic_bundle, set_of}
