@@ -1,0 +1,6 @@
+pub mod Names
+pub mod Rows
+pub mod SpaceOf
+pub mod Degenerated
+pub mod Forms
+pub mod Belongs

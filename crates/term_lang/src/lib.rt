@@ -1,0 +1,16 @@
+//! Terms, which name spaces: tables, names, copies, and what the simplices of the code stand for.
+#![tactic(auto)]
+
+mod names;
+mod tables;
+mod terms;
+mod texts;
+
+pub use cells::{
+    Cell, IntList, Letter, LetterList, Simplex, SmallCell, SmallList, copy_cell, copy_letters,
+    copy_simplex, copy_small, degree, dim, small_degree,
+};
+pub use names::{Name, name_of};
+pub use tables::{FaceList, Row, RowList, Table, TableFace, table_of};
+pub use terms::{Term, copy_table, copy_term, share};
+pub use texts::{FaceText, FaceTextList, NotCocycle, RowText, RowTextList};
