@@ -28,7 +28,8 @@ pub enum Cell {
     Base,
     /// The other cell of a sphere, with the sphere's dimension.
     Top(u32),
-    /// Two simplices of one degree with no common degeneracy: of a product, or of the base and the fibre of a twisted product.
+    /// Two simplices of one degree with no common degeneracy: of the parts of a product, or of the
+    /// base and the fibre of a twisted product.
     Pair(Box<Simplex>, Box<Simplex>),
     /// The suspension of a cell of positive dimension.
     Up(Box<Cell>),

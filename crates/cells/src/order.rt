@@ -77,6 +77,7 @@ impl Ord for Cell {
             },
             (Cell::Base, Cell::Base) => Ordering::Equal,
             (Cell::Top(_), Cell::Top(_)) => Ordering::Equal,
+            // Only cells of one kind come here.
             _ => by_kind,
         }
     }

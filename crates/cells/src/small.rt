@@ -7,7 +7,9 @@ use crate::cells::SmallCell;
 use crate::dims::dim;
 use std::cmp::Ordering;
 
-/// The degree of a small cell, or 4,294,967,295 where it is larger.
+/// The degree of a small cell, or 4,294,967,295 where it is larger, at each level on the way up:
+/// the sum over a pair, one more above a suspended cell, and over a word the sum of one less than
+/// the degree of each letter, where a letter of degree 0 adds 0.
 pub fn small_degree(c: &SmallCell) -> u32
     ensures { result ≡ degree_of_small c.now }
 {
@@ -85,6 +87,7 @@ impl Ord for SmallCell {
             },
             (SmallCell::Up(c), SmallCell::Up(d)) => c.get().cmp(d.get()),
             (SmallCell::Word(a), SmallCell::Word(b)) => cmp_words(a.as_slice(), b.as_slice()),
+            // Only small cells of one kind come here.
             _ => by_kind,
         }
     }

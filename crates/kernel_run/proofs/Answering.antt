@@ -201,3 +201,8 @@ starts a script rest report part most replies errors end = record {
   end = end;
   is_long = refl;
 }
+
+pub stops_at : (a b c : PortState) (script rest line after : List ℕ) (long : Bool) (old new : SessionReport) → SoFar a b script long rest old → cut long rest ≡ line ∷ cut long after → length after < length rest → Answered b c (text_to line) old new → new.end ≢ Finished → Outcome script a.written c.written new
+stops_at a b c script rest line after long old new sofar is less answered not =
+    let texts = next_text (texts_to script) sofar.done (cut long rest) (cut long after) line sofar.texts is in
+    stopped a b c script (text_to line) sofar.done (texts_of (cut long after)) old new texts sofar.wrote sofar.replies sofar.errors (stopped_in new.end b c (text_to line) old new refl not answered.writes answered.counts)

@@ -1,4 +1,5 @@
 pub mod Steps
 pub mod PathTests
+pub mod SameSteps
 pub mod MaskTests
 pub mod FaceMoves

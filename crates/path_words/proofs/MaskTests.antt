@@ -14,7 +14,8 @@ use Rattle.simp_ops.proofs.Masks.{count_below_le}
 use Rattle.path_words.specs.MaskPaths.{mask_path, is_source}
 use Rattle.path_words.specs.Pairing.{partner}
 use Rattle.path_words.proofs.Steps.{event-matched}
-use Rattle.path_words.proofs.PathTests.{word, Calm, Apart, IsBoth, IsTurn, Says, event_says, event-both, event-turn, event-none, matched-both, matched-turn, apart-inserted, apart-dropped, left_moves_at, length-word, same_left, same_right, pairs-last, pairs-same, word_same}
+use Rattle.path_words.proofs.PathTests.{word, Calm, Apart, IsBoth, IsTurn, Says, event_says, event-both, event-turn, event-none, matched-both, matched-turn, apart-inserted, apart-dropped, left_moves_at, length-word, pairs-last, pairs-same, word_same}
+use Rattle.path_words.proofs.SameSteps.{same_left, same_right}
 
 pub mask_path-word : (n a b : ℕ) → mask_path n a b ≡ word n (bit a) (bit b)
 unfolding mask_path

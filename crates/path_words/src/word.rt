@@ -4,8 +4,9 @@ ghost use Rattle.path_words.specs.MaskPaths.{IsSource, mask_path};
 use simp_ops::Degens;
 
 /// The path word of a pair of simplices of degree `len`: at step j both parts move, or the left part
-/// stays (bit j of `left`), or the right part stays (bit j of `right`). The masks are disjoint and
-/// have bits below `len` alone. `len` is at most 32, and at most 31 where the word is a source.
+/// stays, where bit j of `left` is set, or the right part, where bit j of `right` is. The masks are
+/// disjoint and have bits below `len` alone. `len` is at most 32, and at most 31 for a source, so that
+/// its target is a path word too.
 #[derive(Clone, Copy, Debug, PartialEq, Eq)]
 pub struct PathWord {
     pub len: u32,

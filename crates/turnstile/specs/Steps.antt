@@ -1,5 +1,5 @@
 -- What each kind of step tells the pass that takes it, and what it does to that pass's view alone.
--- The steps are those of a ticket lock, and those that count the history of the value behind it. A seat is its view and the slots that are out with it.
+-- The steps are those of a ticket lock (the source stands in `Turns`), and those that count the history of the value behind it. A seat is its view and the slots that are out with it.
 -- A worked value: a pass with ticket 5 that finds 5 as the ticket served is inside, has the slot, and its view keeps the history of the value in it; one that finds 4 stays as it was.
 use Rattle.std.specs.Prelude.{◌≡◌, ℕ, ◌+◌, ◌%◌, ◌^◌, List, [], ◌∷◌, ◌++◌, length, Option, Some, All}
 use Rattle.atomic_table.specs.Table.{Me}

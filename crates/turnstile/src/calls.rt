@@ -1,5 +1,5 @@
 //! How a turnstile is made, entered and left.
-ghost use Rattle.std.specs.Prelude.{◌≡◌, ◌+◌, ◌%◌, ◌^◌, ◌<◌, [], ◌∷◌, Some, None, IfOk, IfErr, OnErr, IsOk, length};
+ghost use Rattle.std.specs.Prelude.{◌≡◌, ◌+◌, ◌%◌, ◌^◌, ◌<◌, [], ◌∷◌, Some, None, IfOk, IfErr, OnErr, IsOk};
 ghost use Rattle.turnstile.specs.declared.rule.Stage.TheVariants.{Outside, Waiting, Inside};
 ghost use Rattle.turnstile.specs.Turns.{Fits};
 ghost use Rattle.turnstile.specs.Steps.{Grows};

@@ -6,6 +6,7 @@ mod calls;
 mod closing;
 mod counted;
 mod list;
+mod lists;
 mod pass;
 mod plays;
 mod rule;

@@ -1,7 +1,6 @@
 //! A log that passes write, in one thread and in two.
-ghost use Rattle.std.specs.Prelude.{◌≡◌, ◌∷◌, ◌++◌, [], ℕ, length, IfOk, IfErr, IfSome, OnOk, OnErr};
-ghost use Rattle.turnstile.specs.Passes.{front, number, made, passes as passes_of, IsInside, IsOutside, IsPassOf, IsSamePass, IsWhole};
-ghost use Rattle.turnstile.specs.Steps.{Grows};
+ghost use Rattle.std.specs.Prelude.{◌≡◌, ◌∷◌, [], IfSome};
+ghost use Rattle.turnstile.specs.Passes.{number, made, passes as passes_of, IsOutside, IsPassOf, IsSamePass};
 
 use crate::{CloseRoom, Counted, Pass, PassList, Turnstile, new_turnstile};
 use std::alloc::{AllocError, Global};

@@ -2,7 +2,7 @@ use Rattle.std.proofs.Common.{◌≡◌, ◌≢◌, ◌++◌, map, ap, true, fal
 use Rattle.kernel_run.specs.Fresh.{is_long, texts_to}
 use Rattle.std.proofs.lemmas.Bool.{le-leb, lt-leb}
 use Rattle.kernel_run.specs.declared.report.End.TheVariants.{Finished}
-use Rattle.kernel_run.proofs.Answering.{next_text, starts, goes_on, stopped, stopped_in, finished, long_written}
+use Rattle.kernel_run.proofs.Answering.{starts, goes_on, stops_at, finished, long_written}
 use Rattle.kernel_run.proofs.session.answer_script.Goals as goal
 
 pub loop-line-init : goal.loop-line-init
@@ -16,9 +16,7 @@ loop-line-preserved g c =
 pub returns-then-ne-clause-output : goal.returns-then-ne-clause-output
 returns-then-ne-clause-output g c =
     let not : c.answer_line-report.result.end ≢ Finished = search rules in
-    let s = c.loop-line.invariant in
-    let texts = next_text (texts_to c.args.script.now) s.done _ _ _ s.texts c.in-Some.ensures.0 in
-    stopped _ _ _ _ _ s.done _ _ _ texts s.wrote s.replies s.errors (stopped_in _ _ _ _ _ _ refl not c.answer_line-report.ensures.writes c.answer_line-report.ensures.counts)
+    stops_at _ _ _ _ _ _ _ _ _ _ c.loop-line.invariant c.in-Some.ensures.0 c.in-Some.ensures.1 c.answer_line-report.ensures not
 
 pub returns-then-long-clause-output : goal.returns-then-long-clause-output
 returns-then-long-clause-output g c =
