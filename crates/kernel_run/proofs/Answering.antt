@@ -1,5 +1,5 @@
 -- Replies one after the other.
-use Rattle.std.proofs.Common.{◌≡◌, ◌≢◌, ℕ, ◌+◌, ◌-◌, ◌<◌, ◌≤◌, List, [], ◌∷◌, ◌++◌, length, take, drop, map, nat_le, Option, Some, None, Bool, true, false, sym, ◌∙◌, ap, refl, arith, append_assoc, append-nil as list_append-nil, length-append, subst, zero-add, add-zero, inl, inr, ◌⊎◌, length-take}
+use Rattle.std.proofs.Common.{◌≡◌, ◌≢◌, ℕ, ◌+◌, ◌-◌, ◌<◌, ◌≤◌, List, [], ◌∷◌, ◌++◌, length, take, drop, nat_le, Option, Some, None, Bool, true, false, sym, ◌∙◌, ap, refl, arith, append_assoc, append-nil as list_append-nil, length-append, subst, zero-add, add-zero, inl, inr, ◌⊎◌, length-take}
 use Rattle.std.proofs.lemmas.List.{take-append-drop}
 use Rattle.std.proofs.lemmas.Bool.{le-leb, lt-leb}
 use Rattle.std.specs.Io.KnownBytes.{append_known}

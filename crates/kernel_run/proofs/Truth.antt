@@ -1,18 +1,17 @@
 -- Each line is answered by what it asks.
-use Rattle.std.proofs.Common.{◌≡◌, ◌≢◌, ℕ, ◌<◌, ◌≤◌, List, [], ◌∷◌, ◌++◌, length, map, Option, Some, None, Bool, true, false, sym, ◌∙◌, ap, refl, arith, subst, if◌then◌else◌, ◌==◌, IfSome, cond}
-use Rattle.fp_field.specs.Chains.{Terms}
+use Rattle.std.proofs.Common.{◌≡◌, ◌≢◌, ℕ, ◌<◌, List, [], ◌∷◌, length, map, Option, Some, None, Bool, true, false, sym, ◌∙◌, ap, refl, arith, subst, if◌then◌else◌, ◌==◌, IfSome}
 use Rattle.spaces.specs.Homology.{HomologyList}
 use Rattle.spaces.specs.Spaces.{set_of, sphere}
-use Rattle.spaces.specs.Tables.{RowSimplex, sphere_rows}
+use Rattle.spaces.specs.Tables.{sphere_rows}
 use Rattle.spaces.specs.SphereCycles.{sphere_cycles}
 use Rattle.spaces.proofs.SphereHomology.{sphere_homology_list}
 use Rattle.spaces.proofs.SphereTable.{sphere_faces}
 use Rattle.spaces.proofs.TableLaws.{table_set_laws}
 use Rattle.kernel_run.specs.Questions.{IsQuestion, question_text, question_of}
-use Rattle.kernel_run.specs.Cycles.{cycles_of, chain_of, one_cell}
+use Rattle.kernel_run.specs.Cycles.{cycles_of, chain_of}
 use Rattle.kernel_run.specs.Replies.{reply_to, reply_to_question, is_empty}
 use Rattle.kernel_run.specs.Truth.{IsAnswered, AreHomologyLists}
-use Rattle.kernel_run.specs.declared.reply.Reply.TheVariants.{Empty, Homology, NotBuilt}
+use Rattle.kernel_run.specs.declared.reply.Reply.TheVariants.{Empty}
 use Rattle.kernel_run.proofs.Asking.{unasked, question_asked}
 
 same_cycles : (n k : ℕ) (zero top : Bool) → zero ≡ (k == 0) → top ≡ (k == n) → sphere_cycles n k ≡ map chain_of (cycles_of n k)

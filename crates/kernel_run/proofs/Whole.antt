@@ -1,11 +1,11 @@
 -- From the script that was read to the input that was there.
-use Rattle.std.proofs.Common.{◌≡◌, ℕ, ◌<◌, ◌≤◌, List, [], ◌++◌, length, map, Option, Some, None, Bool, true, false, sym, ◌∙◌, ap, refl, arith, append-nil as list_append-nil, length-append, subst, IfSome}
+use Rattle.std.proofs.Common.{◌≡◌, ℕ, ◌<◌, ◌≤◌, List, [], ◌++◌, length, Option, Some, None, Bool, true, false, sym, ◌∙◌, ap, refl, arith, append-nil as list_append-nil, length-append, subst, IfSome}
 use Rattle.std.proofs.lemmas.Bool.{le-leb, leb-true, leb-false}
 use Rattle.std.proofs.lemmas.List.{take-append-le}
 use Rattle.std.specs.Io.KnownBytes.{prepend_known, IsAtEnd}
 use Rattle.port_io.specs.Ports.{PortState}
 use Rattle.kernel_run.specs.Counts.{sum_whole, one_reply, one_error}
-use Rattle.kernel_run.specs.Fresh.{fresh, text_to, texts_of, texts_to, joined, is_long, answered_part, last_text}
+use Rattle.kernel_run.specs.Fresh.{fresh, texts_of, texts_to, joined, is_long, answered_part, last_text}
 use Rattle.kernel_run.specs.Lines.{cut}
 use Rattle.kernel_run.specs.Outcome.{Outcome, IsComplete, HasLengthFor}
 use Rattle.kernel_run.specs.Session.{ReadsOn, ReadStops, WritesNothing}

@@ -4,7 +4,7 @@
 --
 -- Main definitions: `is_session`, `usage`, `code_of`.
 -- Worked value: `is_session` is true of the one word "session", and of no other words.
-use Rattle.std.specs.Prelude.{ℕ, List, [], ◌∷◌, codes, Bool, true, false}
+use Rattle.std.specs.Prelude.{ℕ, List, [], ◌∷◌, codes, Bool, false}
 use Rattle.std.specs.Str.{bytes_eq}
 use Rattle.kernel_run.specs.declared.report.End.{End}
 use Rattle.kernel_run.specs.declared.report.End.TheVariants.{Finished, Long, ReadFault, WriteFault, Memory}

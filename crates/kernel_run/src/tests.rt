@@ -136,3 +136,17 @@ fn a_session_reports_its_replies_and_errors(rt: HostRuntime) -> Result<(), Fail>
     );
     Ok(())
 }
+
+#[test]
+fn each_read_has_a_buffer_of_4096_bytes(rt: HostRuntime) -> Result<(), Fail> {
+    let alloc = rt.alloc();
+    let mut input = Vec::new(alloc);
+    input.resize(10_000, b'\n')?;
+    // 4096, 4096, 1808 and 0 bytes: there are four reads, and no fifth.
+    for (bad_read, end) in [(4, End::ReadFault), (5, End::Finished)] {
+        let mut port = mem_port(alloc, &input, 1_000_000, 16, &[bad_read], &[])?;
+        let report = run_session(alloc, &mut port);
+        assert_eq!(rt; report.end, end);
+    }
+    Ok(())
+}

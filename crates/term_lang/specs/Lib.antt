@@ -4,3 +4,5 @@ pub mod SpaceOf
 pub mod Degenerated
 pub mod Forms
 pub mod Belongs
+pub mod Quote
+pub mod NormalForms

@@ -1,6 +1,7 @@
 //! Terms, which name spaces: tables, names, copies, and what the simplices of the code stand for.
 #![tactic(auto)]
 
+mod laws;
 mod names;
 mod tables;
 mod terms;
@@ -10,6 +11,7 @@ pub use cells::{
     Cell, IntList, Letter, LetterList, Simplex, SmallCell, SmallList, copy_cell, copy_letters,
     copy_simplex, copy_small, degree, dim, small_degree,
 };
+pub use laws::{one_term, sphere_normal_forms, table_normal_forms};
 pub use names::{Name, name_of};
 pub use tables::{FaceList, Row, RowList, Table, TableFace, table_of};
 pub use terms::{Term, copy_table, copy_term, share};

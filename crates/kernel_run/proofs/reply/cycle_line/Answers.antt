@@ -1,4 +1,4 @@
-use Rattle.std.proofs.Common.{rules, ◌≡◌, ◌∙◌, sym, subst, IfOk, string_bytes}
+use Rattle.std.proofs.Common.{rules, ◌≡◌, sym, subst, IfOk, string_bytes}
 use Rattle.kernel_run.proofs.Texts.{line_of, line_of-base, line_of-top}
 use Rattle.kernel_run.proofs.reply.cycle_line.Goals as goal
 

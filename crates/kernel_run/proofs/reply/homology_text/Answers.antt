@@ -1,4 +1,4 @@
-use Rattle.std.proofs.Common.{◌≡◌, ◌++◌, ◌∙◌, ap, arith, codes, length, decimal}
+use Rattle.std.proofs.Common.{◌++◌, ◌∙◌, ap, arith, codes, length, decimal}
 use Rattle.std.specs.List.{flat_map}
 use Rattle.std.proofs.lemmas.List.{take_all}
 use Rattle.kernel_run.proofs.Texts.{line_of, lines_whole}

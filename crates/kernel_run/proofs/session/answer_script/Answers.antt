@@ -1,5 +1,5 @@
-use Rattle.std.proofs.Common.{◌≡◌, ◌≢◌, ◌++◌, map, ap, true, false, arith, rules, refl, ◌∙◌}
-use Rattle.kernel_run.specs.Fresh.{is_long, texts_to}
+use Rattle.std.proofs.Common.{◌≡◌, ◌≢◌, true, false, arith, rules, refl}
+use Rattle.kernel_run.specs.Fresh.{is_long}
 use Rattle.std.proofs.lemmas.Bool.{le-leb, lt-leb}
 use Rattle.kernel_run.specs.declared.report.End.TheVariants.{Finished}
 use Rattle.kernel_run.proofs.Answering.{starts, goes_on, stops_at, finished, long_written}

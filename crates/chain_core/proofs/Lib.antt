@@ -1,0 +1,9 @@
+pub mod Rising
+pub mod PlaceLemmas
+pub mod SumLemmas
+pub mod Merging
+pub mod MergeSteps
+pub mod ChainLemmas
+pub mod AskLemmas
+pub mod MapSteps
+pub mod MapLemmas

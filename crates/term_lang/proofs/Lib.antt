@@ -1,0 +1,9 @@
+pub mod CellForms
+pub mod SpacesOfTerms
+pub mod TablePlaces
+pub mod MaskedForms
+pub mod NormalCells
+pub mod CodeForms
+pub mod RowCells
+pub mod TableForms
+pub mod SphereForms
