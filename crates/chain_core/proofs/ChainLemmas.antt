@@ -20,11 +20,10 @@ use Rattle.fp_field.proofs.Weights.{Each-any}
 use Rattle.fp_field.proofs.Normals.{normal-same}
 use Rattle.fp_field.proofs.Support.{weigh-same}
 use Rattle.chain_core.specs.Formal.{numbers}
-use Rattle.chain_core.specs.Merged.{merged}
 use Rattle.chain_core.proofs.Rising.{Rises, Rises-first, Rises-Ascends, rises, normal-Rises, Rises-normal, put-positive, added-normal, add_term-above}
 use Rattle.chain_core.proofs.PlaceLemmas.{lower_before}
 use Rattle.chain_core.proofs.SumLemmas.{parts, numbers-append}
-use Rattle.chain_core.proofs.Merging.{normal-merged}
+use Rattle.chain_core.proofs.Merging.{merged, normal-merged}
 
 pub append-nil : {X : Type 0} (xs : List X) → xs ++ [] ≡ xs
 append-nil [] = refl

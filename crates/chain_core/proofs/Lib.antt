@@ -7,3 +7,4 @@ pub mod ChainLemmas
 pub mod AskLemmas
 pub mod MapSteps
 pub mod MapLemmas
+pub mod Multiples

@@ -1,5 +1,5 @@
 -- Terms that are pushed, each times a number.
-use Rattle.std.proofs.Common.{◌≡◌, ℕ, ◌+◌, ◌*◌, ◌%◌, List, [], ◌∷◌, ◌++◌, refl, sym, ◌∙◌, ap, arith}
+use Rattle.std.proofs.Common.{◌≡◌, ℕ, ◌+◌, ◌*◌, ◌%◌, List, [], ◌∷◌, ◌++◌, refl, ◌∙◌, ap, arith}
 use Rattle.std.proofs.lemmas.Nat.{mul-mod_first}
 use Rattle.fp_field.specs.declared.element.Fp.{Fp}
 use Rattle.fp_field.specs.Field.{SameMod}
@@ -22,7 +22,7 @@ module _ {K : Type 0} (p n : ℕ) (w : K → ℕ) where
       ap (λ m. m % p)
       (let s : weigh w (numbers new) + n * weigh w (numbers rest) ≡ weigh w (numbers old) + n * weigh w (numbers rest) + b.value * w k = omega (arith, weigh-push new old (k, b) pushed) in s)
       ∙ same-plus p (weigh w (numbers old) + n * weigh w (numbers rest)) (weigh w (numbers old) + n * weigh w (numbers rest)) (b.value * w k) (n * a.value * w k) refl
-        (ap (λ v. v * w k % p) e ∙ mul-mod_first (n * a.value) (w k) p)
+      (ap (λ v. v * w k % p) e ∙ mul-mod_first (n * a.value) (w k) p)
       ∙ ap (λ m. m % p)
       (let s : weigh w (numbers old) + n * weigh w (numbers rest) + n * a.value * w k ≡ weigh w (numbers old) + n * weigh w (numbers left) =
       (let q : n * (weigh w (numbers rest) + a.value * w k) ≡ n * weigh w (numbers rest) + n * a.value * w k = omega arith in

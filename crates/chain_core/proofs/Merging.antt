@@ -5,7 +5,6 @@ use Rattle.std.specs.declared.cmp.Ordering.TheVariants.{Less, Equal, Greater}
 use Rattle.std.specs.Cmp.{IsTotalOrder}
 use Rattle.fp_field.specs.Chains.{Terms, Each, scale}
 use Rattle.fp_field.specs.Normal.{put, add_term, normal}
-use Rattle.chain_core.specs.Merged.{merged}
 use Rattle.chain_core.specs.Places.{Ascends}
 use Rattle.chain_core.proofs.Rising.{Rises, Rises-Ascends, add_term-above, add_term-below, add_term-equal, add-Rises, normal-Rises}
 use Rattle.chain_core.proofs.PlaceLemmas.{flipped, lower_before, Each-map}
@@ -13,6 +12,11 @@ use Rattle.chain_core.proofs.PlaceLemmas.{flipped, lower_before, Each-map}
 append-nil : {X : Type 0} (xs : List X) → xs ++ [] ≡ xs
 append-nil [] = refl
 append-nil (x ∷ xs) = ap (λ l. x ∷ l) (append-nil xs)
+
+-- terms added to a list in normal form, the last one first
+abbrev pub merged : {K : Type 0} → (K → K → Ordering) → ℕ → Terms K → Terms K → Terms K
+merged cmp p [] c = c
+merged cmp p (t ∷ ts) c = add_term cmp p t.0 t.1 (merged cmp p ts c)
 
 module _ {K : Type 0} where
   pub scale-append : (n : ℕ) (a b : Terms K) → scale n (a ++ b) ≡ scale n a ++ scale n b

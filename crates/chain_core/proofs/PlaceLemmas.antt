@@ -108,7 +108,7 @@ module _ {K : Type 0} (cmp : K → K → Ordering) (total : IsTotalOrder cmp) wh
   none_after P [] = tt
   none_after P (t ∷ xs) = none_after P xs
 
-  length-numbers : (xs : List (K × Fp)) → length xs ≡ length (numbers xs)
+  pub length-numbers : (xs : List (K × Fp)) → length xs ≡ length (numbers xs)
   length-numbers [] = refl
   length-numbers (t ∷ xs) = ap suc (length-numbers xs)
 

@@ -112,6 +112,11 @@ module _ {K : Type 0} (cmp : K → K → Ordering) (p : ℕ) where
   elements (t ∷ xs) r zero d h = r.1
   elements (t ∷ xs) r (suc k) d h = elements xs r.3 k d (omega arith)
 
+  pub nonzeros : (xs : List (K × Fp)) → Rises (numbers xs) → All (λ t. 0 < t.1.value) xs
+  nonzeros [] r k d h = absurd (omega arith)
+  nonzeros (t ∷ xs) r zero d h = r.0
+  nonzeros (t ∷ xs) r (suc k) d h = nonzeros xs r.3 k d (omega arith)
+
 module _ {K : Type 0} (cmp : K → K → Ordering) (total : IsTotalOrder cmp) (q : Prime) where
   pub rises : (c : Terms K) → IsNormal cmp (number q) c → Rises cmp (number q) c
   rises c e = Rises-is cmp (number q) total (number_pos q) c e
@@ -121,6 +126,9 @@ module _ {K : Type 0} (cmp : K → K → Ordering) (total : IsTotalOrder cmp) (q
 
   pub all_elements : (xs : List (K × Fp)) → IsNormal cmp (number q) (numbers xs) → All (λ t. t.1.value < number q) xs
   all_elements xs e = elements cmp (number q) xs (rises (numbers xs) e)
+
+  pub all_nonzero : (xs : List (K × Fp)) → IsNormal cmp (number q) (numbers xs) → All (λ t. 0 < t.1.value) xs
+  all_nonzero xs e = nonzeros cmp (number q) xs (rises (numbers xs) e)
 
   pub added-normal : (k : K) (n : ℕ) (c : Terms K) → IsNormal cmp (number q) c → IsNormal cmp (number q) (add_term cmp (number q) k n c)
   added-normal k n c e = normal-Rises cmp (number q) _ (add-Rises cmp (number q) total (number_pos q) k n c (rises c e))

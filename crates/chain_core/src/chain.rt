@@ -8,7 +8,7 @@ ghost use Rattle.fp_field.specs.Normal.{normal, IsNormal};
 ghost use Rattle.chain_core.specs.Formal.{numbers};
 
 use crate::places::place_of;
-use crate::sums::{add_to, merge_ends};
+use crate::sums::{add_to, merge_ends, multiply};
 use fp_field::{Fp, Prime};
 use std::alloc::{AllocError, Global};
 use std::marker::Model;
@@ -70,6 +70,7 @@ impl<K: Ord> Chain<K> {
         ensures terms { numbers result.now ≡ self.now.terms }
         ensures normal { IsNormal K.cmp (number self.now.prime) self.now.terms }
         ensures elements { All (λ t. t.1.value < number self.now.prime) result.now }
+        ensures nonzero { All (λ t. 0 < t.1.value) result.now }
     {
         &self.terms
     }
@@ -77,7 +78,9 @@ impl<K: Ord> Chain<K> {
     /// The term at a place in the order of keys.
     pub fn term(&self, i: usize) -> (&K, Fp)
         requires { i < length self.now.terms }
-        ensures { slice_get self.now.terms i ≡ Some (result.0.now, result.1.value) }
+        ensures value { slice_get self.now.terms i ≡ Some (result.0.now, result.1.value) }
+        ensures element { result.1.value < number self.now.prime }
+        ensures nonzero { 0 < result.1.value }
     {
         let (k, c) = &self.terms[i];
         (k, *c)
@@ -87,6 +90,8 @@ impl<K: Ord> Chain<K> {
     pub fn first(&self) -> Option<(&K, Fp)>
         ensures none { IsNone result ↔ (self.now.terms ≡ []) }
         ensures value { option_map (λ t. (t.0.now, t.1.value)) result ≡ slice_get self.now.terms 0 }
+        ensures element { IfSome result (λ t. t.1.value < number self.now.prime) }
+        ensures nonzero { IfSome result (λ t. 0 < t.1.value) }
     {
         let (k, c) = self.terms.first()?;
         Some((k, *c))
@@ -133,6 +138,17 @@ impl<K: Ord> Chain<K> {
         self.terms.append(&mut ends)
     }
 
+    /// Multiplies each coefficient by c.
+    pub fn scale(&mut self, c: Fp)
+    where
+        K: Drop,
+        requires { c.value < number self.old.prime }
+        ensures terms { self.new.terms ≡ normal K.cmp (number self.old.prime) (scale c.value self.old.terms) }
+        ensures prime { self.new.prime ≡ self.old.prime }
+    {
+        multiply(self.prime, &mut self.terms, c);
+    }
+
     /// The chain with these terms, in any order: the sum of the terms at one key is its coefficient.
     pub fn from_terms(alloc: Global, p: Prime, terms: Vec<(K, Fp)>) -> Result<Chain<K>, AllocError>
     where
@@ -152,6 +168,7 @@ impl<K: Ord> Chain<K> {
     pub fn into_terms(self) -> Vec<(K, Fp)>
         ensures terms { numbers result.items ≡ self.terms }
         ensures elements { All (λ t. t.1.value < number self.prime) result.items }
+        ensures nonzero { All (λ t. 0 < t.1.value) result.items }
     {
         let Chain { prime: _, terms } = self;
         terms

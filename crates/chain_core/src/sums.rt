@@ -40,6 +40,21 @@ pub fn add_to<K: Ord + Drop>(
     Ok(())
 }
 
+/// Multiplies each number by c.
+pub fn multiply<K: Ord + Drop>(p: Prime, terms: &mut Vec<(K, Fp)>, c: Fp)
+    requires element { c.value < number p }
+    requires normal { IsNormal K.cmp (number p) (numbers terms.old.items) }
+    ensures { numbers terms.new.items ≡ normal K.cmp (number p) (scale c.value (numbers terms.old.items)) }
+{
+    if c.value == 0 {
+        terms.clear();
+        return;
+    }
+    for i in 0..terms.len() {
+        terms[i].1 = mul(p, c, terms[i].1);
+    }
+}
+
 /// Pushes a term, unless its number is 0.
 fn push_nonzero<K: Ord + Drop>(
     terms: &mut Vec<(K, Fp)>,

@@ -8,6 +8,7 @@ use std::alloc::{AllocError, Global};
 use std::test::Fail;
 
 const ONE: Fp = Fp { value: 1 };
+
 const TWO: Fp = Fp { value: 2 };
 
 /// The identity on chains of numbers over F_3.
@@ -48,7 +49,10 @@ fn a_sum_over_three(rt: HostRuntime) -> Result<(), Fail> {
     chain.add_scaled(&other, TWO)?;
     assert_eq!(rt; chain.coeff(&9), TWO);
     assert_eq!(rt; chain.len(), 1);
-    cross(chain);
+    chain.scale(TWO);
+    assert_eq!(rt; chain.coeff(&9), ONE);
+    assert_eq!(rt; chain.into_terms().as_slice(), [(9, ONE)].as_slice());
+    cross(other);
     Ok(())
 }
 

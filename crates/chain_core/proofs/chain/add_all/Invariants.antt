@@ -2,7 +2,7 @@ use Rattle.std.proofs.Common.{◌≡◌, ◌++◌, ◌<◌, All, vec_len}
 use Rattle.fp_field.specs.Field.{number}
 use Rattle.fp_field.specs.Normal.{normal, IsNormal}
 use Rattle.chain_core.specs.Formal.{numbers}
-use Rattle.chain_core.specs.Merged.{merged}
+use Rattle.chain_core.proofs.Merging.{merged}
 use Rattle.chain_core.proofs.chain.add_all.Given as goal
 
 abbrev pub invariant-loop-k : goal.invariant-loop-k

@@ -1,4 +1,4 @@
-use Rattle.std.proofs.Common.{◌<◌, Some, All, subst, sym}
+use Rattle.std.proofs.Common.{◌<◌, Some, subst, sym}
 use Rattle.std.proofs.Math.Nat.{mod-lt}
 use Rattle.std.proofs.lemmas.List.Elements.{All-pop, All-push, All-same}
 use Rattle.fp_field.specs.Field.{number}

@@ -1,0 +1,17 @@
+pub mod Basis
+pub mod Betti
+pub mod Columns
+pub mod Complement
+pub mod Counts
+pub mod Halves
+pub mod EchelonLaws
+pub mod Leads
+pub mod Lists
+pub mod Members
+pub mod Rank
+pub mod Rows
+pub mod Spans
+pub mod Steps
+pub mod Unique
+pub mod Vectors
+pub mod Worked
