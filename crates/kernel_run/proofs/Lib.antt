@@ -1,7 +1,6 @@
 pub mod Answering
 pub mod Asking
 pub mod Cutting
-pub mod Finding
 pub mod Leading
 pub mod Reading
 pub mod Texts

@@ -1,5 +1,6 @@
 -- Each line is answered by what it asks.
-use Rattle.std.proofs.Common.{◌≡◌, ◌≢◌, ℕ, ◌<◌, List, [], ◌∷◌, length, map, Option, Some, None, Bool, true, false, sym, ◌∙◌, ap, refl, arith, subst, if◌then◌else◌, ◌==◌, IfSome}
+use Rattle.std.proofs.Common.{◌≡◌, ◌≢◌, ℕ, ◌<◌, List, [], ◌∷◌, length, map, Option, Some, None, Bool, true, false, sym, ◌∙◌, ap, refl, arith, subst, if◌then◌else◌, ◌==◌, ◌||◌, nat_lt, ◌≤◌, ◌⊎◌, inl, inr, IfSome}
+use Rattle.std.proofs.lemmas.Bool.Decides.{nat_tests}
 use Rattle.spaces.specs.Homology.{HomologyList}
 use Rattle.spaces.specs.Spaces.{set_of, sphere}
 use Rattle.spaces.specs.Tables.{sphere_rows}
@@ -11,7 +12,8 @@ use Rattle.kernel_run.specs.Questions.{IsQuestion, question_text, question_of}
 use Rattle.kernel_run.specs.Cycles.{cycles_of, chain_of}
 use Rattle.kernel_run.specs.Replies.{reply_to, reply_to_question, is_empty}
 use Rattle.kernel_run.specs.Truth.{IsAnswered, AreHomologyLists}
-use Rattle.kernel_run.specs.declared.reply.Reply.TheVariants.{Empty}
+use Rattle.kernel_run.specs.declared.reply.Reply.TheVariants.{Empty, Homology, BadSphere, Degree}
+use Rattle.kernel_run.specs.declared.reply.Reply.{Reply}
 use Rattle.kernel_run.proofs.Asking.{unasked, question_asked}
 
 same_cycles : (n k : ℕ) (zero top : Bool) → zero ≡ (k == 0) → top ≡ (k == n) → sphere_cycles n k ≡ map chain_of (cycles_of n k)
@@ -43,10 +45,35 @@ reply_to-none : (line : List ℕ) → line ≡ [] → reply_to line ≡ Empty
 unfolding reply_to
 reply_to-none line e = subst (λ l. reply_to l ≡ Empty) (sym e) refl
 
+-- the reply to a question, by where its numbers lie
+abbrev choice : Bool → Bool → ℕ → ℕ → Reply
+choice bad high n k = if bad then BadSphere n else (if high then Degree k else Homology (cycles_of n k))
+
+chosen : (line : List ℕ) (n k : ℕ) (bad high : Bool) → IsQuestion line n k → (n == 0) || nat_lt 16 n ≡ bad → nat_lt 16 k ≡ high
+    → reply_to line ≡ choice bad high n k
+chosen line n k bad high q a b =
+    reply_to-some line (text_some line n k q) ∙ ap reply_to_question (question_asked line n k q)
+    ∙ ap (λ s. choice s (nat_lt 16 k) n k) a ∙ ap (λ d. choice bad d n k) b
+
+is_sphere : (n : ℕ) → 0 < n → n ≤ 16 → (n == 0) || nat_lt 16 n ≡ false
+is_sphere n some most = grind (arith, nat_tests)
+
+is_none : (n : ℕ) → (n ≡ 0) ⊎ (16 < n) → (n == 0) || nat_lt 16 n ≡ true
+is_none n (inl e) = grind (arith, nat_tests)
+is_none n (inr h) = grind (arith, nat_tests)
+
+is_degree : (k : ℕ) → k ≤ 16 → nat_lt 16 k ≡ false
+is_degree k h = grind (arith, nat_tests)
+
+no_degree : (k : ℕ) → 16 < k → nat_lt 16 k ≡ true
+no_degree k h = grind (arith, nat_tests)
+
 pub answered : (line : List ℕ) → IsAnswered line
 answered line = record {
-  question = λ n k q. reply_to-some line (text_some line n k q) ∙ ap reply_to_question (question_asked line n k q);
-  homology = λ n k q. homology n k q.some;
+  question = λ n k q some most low. chosen line n k false false q (is_sphere n some most) (is_degree k low);
+  homology = λ n k q some. homology n k some;
+  no_sphere = λ n k q none. chosen line n k true (nat_lt 16 k) q (is_none n none) refl;
+  no_degree = λ n k q some most high. chosen line n k false true q (is_sphere n some most) (no_degree k high);
   empty = reply_to-none line;
   other = λ some none. reply_to-some line (some_bytes line some) ∙ ap reply_to_question (unasked line none);
 }

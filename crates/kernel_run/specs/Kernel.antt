@@ -11,6 +11,7 @@ use Rattle.std.specs.Io.KnownBytes.{append_known, IsAtEnd}
 use Rattle.port_io.specs.Ports.{PortState, Rose, raised}
 use Rattle.kernel_run.specs.Fresh.{fresh}
 use Rattle.kernel_run.specs.Truth.{AreHomologyLists}
+use Rattle.kernel_run.specs.Session.{ReadsNothing}
 use Rattle.kernel_run.specs.Words.{usage}
 
 -- a count of faults of this port rose
@@ -39,8 +40,9 @@ pub record OneSession (before after : PortState) (code : ℕ) : Type 0 where
   pub ended : code ≡ 0 → Rose before.empty_reads after.empty_reads
   pub at_end : code ≡ 0 → IsAtEnd after.left
 
--- the usage line, whole or up to a fault
+-- the usage line, whole or up to a fault, and nothing is read
 pub record ShowsUsage (before after : PortState) : Type 0 where
+  pub reads : ReadsNothing before after
   pub count : ℕ
   pub written : after.written ≡ append_known before.written (take count usage)
   pub short : (length usage ≤ count) ⊎ Rose before.write_faults after.write_faults

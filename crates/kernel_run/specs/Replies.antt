@@ -1,11 +1,11 @@
 -- The reply to a line, and its text.
 --
--- A question gets the listed cycles, an empty line no reply, and every other line one refusal. A chain is printed as its
+-- A question gets the listed cycles, or the refusal of its sphere or its degree; an empty line gets no reply, and every other line one refusal. A chain is printed as its
 -- terms in order, one blank between them, each a coefficient and a cell in parentheses.
 --
 -- Main definitions: `Reply`, `reply_to`, `text_of`.
 -- Worked value: the text of the reply to "(homology (sphere 3) 3)" is "homology 1\n(1 S3)\n".
-use Rattle.std.specs.Prelude.{ℕ, List, [], ◌∷◌, ◌++◌, length, Option, None, Some, if◌then◌else◌, Bool, codes, decimal, ◌==◌}
+use Rattle.std.specs.Prelude.{ℕ, List, [], ◌∷◌, ◌++◌, length, Option, None, Some, if◌then◌else◌, Bool, codes, decimal, ◌==◌, ◌||◌, nat_lt}
 use Rattle.std.specs.List.{flat_map}
 use Rattle.fp_field.specs.Chains.{Terms}
 use Rattle.kernel_run.specs.Questions.{question_of}
@@ -14,13 +14,16 @@ use Rattle.kernel_run.specs.declared.question.Question.{Question}
 use Rattle.kernel_run.specs.declared.cycles.SphereCell.{SphereCell}
 use Rattle.kernel_run.specs.declared.cycles.SphereCell.TheVariants.{Base, Top}
 use Rattle.kernel_run.specs.declared.reply.Reply.{Reply}
-use Rattle.kernel_run.specs.declared.reply.Reply.TheVariants.{Empty, Homology, NotBuilt}
+use Rattle.kernel_run.specs.declared.reply.Reply.TheVariants.{Empty, Homology, BadSphere, Degree, NotBuilt}
 
 abbrev pub is_empty : List ℕ → Bool
 is_empty bytes = length bytes == 0
 
+-- the sphere is looked at before the degree
 abbrev pub reply_to_question : Option Question → Reply
-reply_to_question (Some q) = Homology (cycles_of q.sphere q.degree)
+reply_to_question (Some q) =
+    if q.sphere == 0 || nat_lt 16 q.sphere then BadSphere q.sphere
+    else (if nat_lt 16 q.degree then Degree q.degree else Homology (cycles_of q.sphere q.degree))
 reply_to_question None = NotBuilt
 
 -- the reply to a line
@@ -47,4 +50,6 @@ homology_text zs = (codes "homology " ++ (decimal (length zs) ++ codes "\n")) ++
 unfoldable pub text_of : Reply → List ℕ
 text_of Empty = []
 text_of (Homology zs) = homology_text zs
+text_of (BadSphere n) = codes "error term bad-sphere " ++ (decimal n ++ codes "\n")
+text_of (Degree k) = codes "error degree " ++ (decimal k ++ codes "\n")
 text_of NotBuilt = codes "error not-built\n"

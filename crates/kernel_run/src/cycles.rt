@@ -2,7 +2,6 @@
 ghost use Rattle.std.specs.Prelude.{◌≡◌, IfOk, [], ◌∷◌, ◌++◌, OnOk, length, map};
 ghost use Rattle.kernel_run.specs.Cycles.{cycles_of, one_cell};
 
-use crate::question::Question;
 use std::alloc::{AllocError, Global};
 use std::marker::Model;
 
@@ -39,15 +38,15 @@ impl CycleList {
     }
 }
 
-/// The cycles that are listed for a question.
-pub(crate) fn cycles_of(alloc: Global, question: Question) -> Result<CycleList, AllocError>
-    ensures { IfOk result (λ list. list ≡ cycles_of question.sphere question.degree) }
+/// The cycles that are listed in degree k of the sphere of dimension n.
+pub(crate) fn cycles_of(alloc: Global, n: u32, k: u32) -> Result<CycleList, AllocError>
+    ensures { IfOk result (λ list. list ≡ cycles_of n k) }
 {
     let mut cells = Vec::new(alloc);
-    if question.degree == 0 {
+    if k == 0 {
         cells.push(SphereCell::Base)?;
-    } else if question.degree == question.sphere {
-        cells.push(SphereCell::Top(question.sphere))?;
+    } else if k == n {
+        cells.push(SphereCell::Top(n))?;
     }
     Ok(CycleList { cells })
 }

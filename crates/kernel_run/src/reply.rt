@@ -1,11 +1,11 @@
 // The reply to one line, and its text.
-ghost use Rattle.std.specs.Prelude.{◌≡◌, ◌++◌, IfOk, string_bytes, codes};
+ghost use Rattle.std.specs.Prelude.{◌≡◌, ◌++◌, IfOk, string_bytes, codes, Some};
 ghost use Rattle.kernel_run.specs.Cycles.{one_cell};
-ghost use Rattle.kernel_run.specs.Replies.{reply_to, text_of, homology_text, chain_text};
+ghost use Rattle.kernel_run.specs.Replies.{reply_to, reply_to_question, text_of, homology_text, chain_text};
 ghost use Rattle.kernel_run.specs.Fresh.{text_to};
 
 use crate::cycles::{CycleList, SphereCell, cycles_of};
-use crate::question::question_of;
+use crate::question::{Question, question_of};
 use std::alloc::{AllocError, Global};
 
 /// The reply to a line.
@@ -13,6 +13,8 @@ use std::alloc::{AllocError, Global};
 pub(crate) enum Reply {
     Empty,
     Homology(CycleList),
+    BadSphere(u64),
+    Degree(u64),
     NotBuilt,
 }
 
@@ -32,9 +34,23 @@ fn reply_to(alloc: Global, line: &[u8]) -> Result<Reply, AllocError>
         return Ok(Reply::Empty);
     }
     match question_of(line) {
-        Some(question) => Ok(Reply::Homology(cycles_of(alloc, question)?)),
+        Some(question) => reply_to_question(alloc, question),
         None => Ok(Reply::NotBuilt),
     }
+}
+
+// The sphere is looked at before the degree.
+fn reply_to_question(alloc: Global, question: Question) -> Result<Reply, AllocError>
+    ensures { IfOk result (λ reply. reply ≡ reply_to_question (Some question)) }
+{
+    if question.sphere == 0 || question.sphere > 16 {
+        return Ok(Reply::BadSphere(question.sphere));
+    }
+    if question.degree > 16 {
+        return Ok(Reply::Degree(question.degree));
+    }
+    let cycles = cycles_of(alloc, question.sphere as u32, question.degree as u32)?;
+    Ok(Reply::Homology(cycles))
 }
 
 #[tactic(auto, unfolding(crate::specs::Replies::text_of))]
@@ -44,6 +60,8 @@ fn text_of(alloc: Global, reply: &Reply) -> Result<String, AllocError>
     match reply {
         Reply::Empty => Ok(String::new(alloc)),
         Reply::Homology(cycles) => homology_text(alloc, cycles),
+        Reply::BadSphere(n) => format!(in alloc; "error term bad-sphere {n}\n"),
+        Reply::Degree(k) => format!(in alloc; "error degree {k}\n"),
         Reply::NotBuilt => String::from_str(alloc, "error not-built\n"),
     }
 }

@@ -1,11 +1,10 @@
 -- The plain form of each kind of cell, and which cells of each kind belong to a space.
-use Rattle.std.proofs.Common.{◌≡◌, ℕ, Bool, List, [], ◌∷◌, map, refl, sym, ◌∙◌, ap, ℤ}
+use Rattle.std.proofs.Common.{◌≡◌, ℕ, List, [], ◌∷◌, map, refl, sym, ◌∙◌, ap, ℤ}
 use Rattle.cells.specs.declared.cells.Cell.{Cell, fold-roll-Cell, para-roll-Cell, roll-Cell, map-Cell}
 use Rattle.cells.specs.declared.cells.Cell.TheVariants.{Row, Base, Top, Pair, Up, Ints, Word, rolls-Row, rolls-Base, rolls-Top, rolls-Pair, rolls-Up, rolls-Ints, rolls-Word}
 use Rattle.cells.specs.declared.cells.Cell.TheOpen.{Cell-F}
 use Rattle.cells.specs.declared.cells.Letter.{Letter, fold-Letter, fold-roll-Letter, para-Letter, para-roll-Letter}
 use Rattle.cells.specs.declared.cells.Simplex.{Simplex, fold-Simplex, fold-roll-Simplex, para-Simplex, para-roll-Simplex}
-use Rattle.spaces.specs.Spaces.{Space}
 use Rattle.term_lang.specs.Forms.{Form, LetterForm, cell_form, cell_step, letter_step, simplex_step, form, letter_form}
 use Rattle.term_lang.specs.Belongs.{Test, is_cell, belongs_step, letter_step as letter_test, simplex_step as simplex_test}
 

@@ -1,9 +1,9 @@
 -- Normal forms of the code for a space whose simplices are those of a table: its cells stand for the rows.
-use Rattle.std.proofs.Common.{◌≡◌, ℕ, suc, ◌+◌, ◌-◌, ◌%◌, ◌^◌, ◌<◌, ◌≤◌, Bool, true, false, nat_lt, ◌&&◌, List, [], ◌∷◌, length, refl, sym, ◌∙◌, ap, subst, arith, ◌⊎◌, inl, inr, true≢false}
+use Rattle.std.proofs.Common.{◌≡◌, ℕ, ◌+◌, ◌-◌, ◌%◌, ◌^◌, ◌<◌, ◌≤◌, Bool, true, nat_lt, ◌&&◌, List, [], length, refl, sym, ◌∙◌, ap, subst, arith, ◌⊎◌, inl, inr}
 use Rattle.std.proofs.lemmas.Bool.{cases_lt}
 use Rattle.std.proofs.lemmas.Bool.Decides.{Decides-ltb}
 use Rattle.std.proofs.lemmas.Nat.{pow_pos}
-use Rattle.std.proofs.lemmas.Cmp.{tied_itself, nat_cmp_total, nat_list_cmp_total}
+use Rattle.std.proofs.lemmas.Cmp.{tied_itself, nat_list_cmp_total}
 use Rattle.std.proofs.lemmas.Map.Lookups.{exact_unsigned}
 use Rattle.std.proofs.Math.Nat.{mod-eq_of_lt}
 use Rattle.std.specs.Ordering.{ordering_then, nat_cmp}
@@ -12,7 +12,7 @@ use Rattle.std.specs.declared.cmp.Ordering.{Ordering}
 use Rattle.std.specs.declared.cmp.Ordering.TheVariants.{Less, Equal, Greater}
 use Rattle.simp_ops.specs.declared.degens.Degens.{Degens}
 use Rattle.simp_ops.specs.Words.{IsWord}
-use Rattle.simp_ops.specs.Bits.{bit, places, mask_word}
+use Rattle.simp_ops.specs.Bits.{bit, mask_word}
 use Rattle.simp_ops.proofs.PlacesOf.{word_below, places_word, is_lt}
 use Rattle.simp_ops.proofs.Squeezed.{and_left, and_right}
 use Rattle.simp_ops.proofs.MaskWords.{mask_of, mask_of-lt, places-mask_of, places_told, places-none, mask_word_below}

@@ -4,6 +4,11 @@ pub mod TablePlaces
 pub mod MaskedForms
 pub mod NormalCells
 pub mod CodeForms
+pub mod WordsAct
 pub mod RowCells
+pub mod TermForests
+pub mod RowReads
+pub mod RowFaces
+pub mod OnePoint
 pub mod TableForms
 pub mod SphereForms

@@ -1,10 +1,7 @@
 -- What holds of the simplices of a space and their normal forms holds of its cells and the non-degenerate simplices.
-use Rattle.std.proofs.Common.{◌≡◌, ℕ, zero, suc, ◌+◌, ◌-◌, ◌^◌, ◌<◌, ◌≤◌, Bool, true, false, cond, nat_lt, ◌||◌, ◌&&◌, [], length, refl, sym, ◌∙◌, ap, subst, arith, ◌⊎◌, inl, inr, true≢false}
-use Rattle.std.proofs.lemmas.Bool.{cases_lt}
+use Rattle.std.proofs.Common.{◌≡◌, ℕ, zero, suc, ◌+◌, ◌-◌, ◌^◌, ◌<◌, Bool, true, false, cond, ◌||◌, ◌&&◌, length, refl, sym, ◌∙◌, ap, subst, arith, true≢false}
 use Rattle.std.proofs.lemmas.Nat.{pow_pos}
-use Rattle.std.specs.Ordering.{ordering_then, nat_cmp}
-use Rattle.simp_ops.specs.Bits.{mask_word}
-use Rattle.simp_ops.proofs.PlacesOf.{cases_bool, is_lt}
+use Rattle.simp_ops.proofs.PlacesOf.{is_lt}
 use Rattle.simp_ops.proofs.MaskWords.{places-none}
 use Rattle.spaces.specs.Simplicial.{Simplicial, some_below, has_degeneracy, is_degenerate}
 use Rattle.spaces.specs.Spaces.{Space, Plain, set_of}

@@ -1,7 +1,6 @@
 -- The space of each kind of term, and that equal spaces come from equal terms.
 use Rattle.std.proofs.Common.{◌≡◌, ℕ, List, [], ◌∷◌, map, sym, ◌∙◌, ap, subst, refl, arith, ℤ}
 use Rattle.simp_ops.proofs.MaskWords.{places_told}
-use Rattle.simp_ops.specs.declared.degens.Degens.{Degens}
 use Rattle.cells.proofs.OneKey.{degens_same}
 use Rattle.spaces.specs.Tables.{Row as TableRow, RowSimplex}
 use Rattle.spaces.specs.Spaces.{Space, table, sphere, product, suspension, kz1, bundle, loops, paths, kzm1, cyclic_bundle}

@@ -1,5 +1,5 @@
 -- Normal forms of spheres.
-use Rattle.std.proofs.Common.{◌≡◌, ℕ, zero, suc, ◌-◌, ◌<◌, ◌≤◌, Bool, true, false, ◌==◌, ◌&&◌, [], refl, sym, ◌∙◌, ap, subst, arith, true≢false}
+use Rattle.std.proofs.Common.{◌≡◌, ℕ, zero, suc, ◌<◌, ◌≤◌, Bool, true, ◌==◌, ◌&&◌, [], refl, sym, ◌∙◌, ap, subst, arith, true≢false}
 use Rattle.std.proofs.lemmas.Cmp.{tied_itself, nat_cmp_total}
 use Rattle.std.specs.Ordering.{nat_cmp}
 use Rattle.simp_ops.proofs.PlacesOf.{is_eq}
@@ -10,7 +10,7 @@ use Rattle.spaces.specs.Simplicial.{IsSimplicial}
 use Rattle.spaces.proofs.TableLaws.{table_set_laws}
 use Rattle.spaces.proofs.SphereTable.{sphere_faces}
 use Rattle.cells.specs.declared.cells.Cell.{Cell, roll-Cell, out-Cell, roll-out-Cell}
-use Rattle.cells.specs.declared.cells.Cell.TheVariants.{Base, Top, rolls-Base, rolls-Top}
+use Rattle.cells.specs.declared.cells.Cell.TheVariants.{Top, rolls-Base, rolls-Top}
 use Rattle.cells.specs.declared.cells.Cell.TheOpen.{Cell-F}
 use Rattle.cells.specs.declared.cells.Letter.{Letter}
 use Rattle.cells.specs.declared.cells.Simplex.{Simplex}

@@ -1,5 +1,5 @@
 -- Normal forms of tables.
-use Rattle.std.proofs.Common.{◌≡◌, ℕ, ◌<◌, ◌≤◌, Bool, true, false, nat_lt, ◌==◌, ◌&&◌, [], length, refl, sym, ◌∙◌, ap, subst, true≢false}
+use Rattle.std.proofs.Common.{◌≡◌, ℕ, ◌≤◌, Bool, true, nat_lt, ◌==◌, ◌&&◌, length, refl, sym, ◌∙◌, ap, subst, true≢false}
 use Rattle.simp_ops.proofs.PlacesOf.{is_eq, is_lt}
 use Rattle.simp_ops.proofs.Squeezed.{and_left, and_right}
 use Rattle.spaces.specs.Tables.{Table, RowSimplex, row_at, table_set}

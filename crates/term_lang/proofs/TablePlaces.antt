@@ -1,5 +1,5 @@
 -- The mask, the cell and the dimension of a simplex of a table, read off its word.
-use Rattle.std.proofs.Common.{◌≡◌, ℕ, zero, suc, ◌+◌, ◌-◌, ◌*◌, ◌/◌, ◌%◌, ◌^◌, ◌<◌, ◌≤◌, Bool, true, false, cond, ◌==◌, ◌||◌, ◌&&◌, List, [], ◌∷◌, length, refl, sym, ◌∙◌, ap, subst, arith, ◌⊎◌, inl, inr, true≢false}
+use Rattle.std.proofs.Common.{◌≡◌, ℕ, zero, suc, ◌+◌, ◌-◌, ◌*◌, ◌/◌, ◌%◌, ◌^◌, ◌<◌, ◌≤◌, true, false, cond, ◌==◌, ◌||◌, ◌&&◌, List, [], ◌∷◌, length, refl, sym, ◌∙◌, ap, subst, arith, ◌⊎◌, inl, inr, true≢false}
 use Rattle.std.proofs.lemmas.Bool.{cases_eq, cases_lt}
 use Rattle.std.specs.Cmp.Lexicographic.{pointwise}
 use Rattle.std.specs.Prelude.{nat_eq}
@@ -9,9 +9,9 @@ use Rattle.std.proofs.lemmas.Nat.Bits.{bit_at-lt}
 use Rattle.std.proofs.Math.Nat.{mod-eq_of_lt}
 use Rattle.std.proofs.lemmas.Bool.Decides.{Decides-eqb, Decides-and}
 use Rattle.std.proofs.lemmas.Slice.Eq.{bytes_eq-Decides}
-use Rattle.simp_ops.specs.Words.{IsWord, degeneracy_word, face_word, has}
-use Rattle.simp_ops.specs.Bits.{bit, places, count_below}
-use Rattle.simp_ops.proofs.PlacesOf.{word_below, degeneracy-before, cases_bool, is_eq, not_eq, is_le, not_le, face-at}
+use Rattle.simp_ops.specs.Words.{IsWord, degeneracy_word, has}
+use Rattle.simp_ops.specs.Bits.{bit, count_below}
+use Rattle.simp_ops.proofs.PlacesOf.{word_below, degeneracy-before, cases_bool, is_eq, not_eq, face-at}
 use Rattle.simp_ops.proofs.Masks.{places_has, has_far}
 use Rattle.simp_ops.proofs.MaskWords.{mask_of, mask_of-lt, bit-mask_of, length-places}
 use Rattle.simp_ops.proofs.WordLaws.{passes, stays, face-degeneracy}

@@ -14,7 +14,7 @@
 -- The fibre of a bundle is K(Z,1) or K(Z/m,1), that of a path space is the loop group.
 --
 --   of the sphere of dimension 2, the mask 5 before Top(2) is a simplex of degree 4 and of no other
-use Rattle.std.specs.Prelude.{◌≡◌, ℕ, zero, suc, ◌+◌, ◌-◌, ◌^◌, Bool, true, false, not, ◌&&◌, ◌||◌, ◌==◌, nat_lt, List, [], ◌∷◌, length, ℤ, pos, negsuc, bit_and, cond}
+use Rattle.std.specs.Prelude.{◌≡◌, ℕ, zero, suc, ◌-◌, ◌^◌, Bool, true, false, not, ◌&&◌, ◌||◌, ◌==◌, nat_lt, List, [], ◌∷◌, length, ℤ, pos, negsuc, bit_and, cond}
 use Rattle.std.specs.List.{list_all}
 use Rattle.std.specs.Ordering.{is_eq}
 use Rattle.simp_ops.specs.Bits.{bit, mask_word}

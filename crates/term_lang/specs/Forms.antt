@@ -6,7 +6,7 @@
 -- made part by part, and a suspended cell is (0, c) of its cell c. What is no cell of the space has the form of its vertex.
 --
 --   the mask 5 before Top(2) is s_2 s_0 of the cell of the sphere of dimension 2, of degree 4: (2 ∷ 0 ∷ [], 1)
-use Rattle.std.specs.Prelude.{ℕ, Bool, List, [], map, Option, Some, None, nat_abs}
+use Rattle.std.specs.Prelude.{Bool, [], map, Some, None, nat_abs}
 use Rattle.simp_ops.specs.Bits.{mask_word}
 use Rattle.spaces.specs.Spaces.{Space, table, sphere, product, suspension, kz1, bundle, loops, paths, kzm1, cyclic_bundle, Plain, set_of}
 use Rattle.cells.specs.declared.cells.Cell.{Cell, fold-Cell}

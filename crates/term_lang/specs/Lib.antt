@@ -6,3 +6,4 @@ pub mod Forms
 pub mod Belongs
 pub mod Quote
 pub mod NormalForms
+pub mod TermOrder

@@ -1,16 +1,27 @@
 // Laws of the definitions. Each function does nothing; its clauses are the law.
 ghost use Rattle.std.specs.Prelude.{◌≡◌, ◌<◌, ◌≤◌, ℕ};
+ghost use Rattle.std.specs.declared.cmp.Ordering.TheVariants.{Equal};
 ghost use Rattle.spaces.specs.Allowed.{IsTable};
-ghost use Rattle.spaces.specs.Spaces.{table, sphere};
+ghost use Rattle.spaces.specs.Simplicial.{IsSimplicial};
+ghost use Rattle.spaces.specs.Spaces.{Space, table, sphere, set_of};
 ghost use Rattle.spaces.specs.Tables.{sphere_rows, Table as TableRows};
+ghost use Rattle.term_lang.specs.Degenerated.{WordsAct};
 ghost use Rattle.term_lang.specs.SpaceOf.{space_of};
+ghost use Rattle.term_lang.specs.TermOrder.{term_cmp};
 ghost use Rattle.term_lang.specs.NormalForms.{HasMaskedForms, HasNormalForms, HasNormalCells};
 
 use crate::terms::Term;
 
-/// Equal spaces come from equal terms.
+/// Terms that compare as equal are the same, and equal spaces come from equal terms.
 pub fn one_term(t: &Term)
-    ensures { (u : Term) → space_of t.now ≡ space_of u → t.now ≡ u }
+    ensures order { (u : Term) → term_cmp t.now u ≡ Equal → t.now ≡ u }
+    ensures space { (u : Term) → space_of t.now ≡ space_of u → t.now ≡ u }
+{}
+
+/// Words of degeneracies before the simplices of a simplicial set follow the simplicial identities
+/// (May, Simplicial Objects, chapter I, 1).
+pub fn words_before_simplices()
+    ensures { (X : Space) → IsSimplicial (set_of X) → WordsAct (set_of X) }
 {}
 
 /// The simplices of the code of a table are its simplices, each in one normal form, and stand in the

@@ -3,16 +3,23 @@
 
 mod laws;
 mod names;
+mod order;
+mod row_faces;
+mod simplicial;
 mod tables;
 mod terms;
+#[cfg(test)]
+mod tests;
 mod texts;
 
 pub use cells::{
     Cell, IntList, Letter, LetterList, Simplex, SmallCell, SmallList, copy_cell, copy_letters,
     copy_simplex, copy_small, degree, dim, small_degree,
 };
-pub use laws::{one_term, sphere_normal_forms, table_normal_forms};
+pub use laws::{one_term, sphere_normal_forms, table_normal_forms, words_before_simplices};
 pub use names::{Name, name_of};
+pub use row_faces::table_face;
+pub use simplicial::Faces;
 pub use tables::{FaceList, Row, RowList, Table, TableFace, table_of};
 pub use terms::{Term, copy_table, copy_term, share};
 pub use texts::{FaceText, FaceTextList, NotCocycle, RowText, RowTextList};

@@ -6,8 +6,8 @@ use cells::IntList;
 use seqs::{Arc, Box};
 use std::alloc::{AllocError, Global};
 
-/// The name of a space.
-#[derive(Debug, PartialEq, Eq, PartialOrd, Ord, Drop)]
+/// The name of a space. Terms are ordered by kind and then by what they hold; equal terms are the same.
+#[derive(Debug, Drop)]
 pub enum Term {
     /// The simplicial set of a table.
     Table(Table),
