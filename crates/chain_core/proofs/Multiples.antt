@@ -1,6 +1,6 @@
 -- A multiple of a chain by a number that is not 0 has the same keys.
-use Rattle.std.proofs.Common.{◌≡◌, ℕ, zero, suc, ◌+◌, ◌*◌, ◌%◌, ◌<◌, ◌≤◌, List, [], ◌∷◌, ◌++◌, length, take, drop, get_or, set, refl, sym, ◌∙◌, ap, subst, arith}
-use Rattle.std.proofs.Math.Nat.{mod-lt, zero-mod}
+use Rattle.std.proofs.Common.{◌≡◌, ℕ, zero, suc, ◌*◌, ◌%◌, ◌<◌, ◌≤◌, List, [], ◌∷◌, ◌++◌, length, take, drop, get_or, set, refl, sym, ◌∙◌, ap, arith}
+use Rattle.std.proofs.Math.Nat.{zero-mod}
 use Rattle.std.specs.declared.cmp.Ordering.{Ordering}
 use Rattle.std.specs.declared.cmp.Ordering.TheVariants.{Less}
 use Rattle.std.specs.Cmp.{IsTotalOrder}
@@ -8,7 +8,7 @@ use Rattle.fp_field.specs.declared.prime.Prime.{Prime}
 use Rattle.fp_field.specs.declared.element.Fp.{Fp}
 use Rattle.fp_field.specs.Field.{number, times}
 use Rattle.fp_field.specs.Chains.{Terms, Each, scale}
-use Rattle.fp_field.specs.Normal.{put, add_term, normal, IsNormal}
+use Rattle.fp_field.specs.Normal.{add_term, normal, IsNormal}
 use Rattle.fp_field.proofs.FieldLaws.{is_field}
 use Rattle.chain_core.specs.Formal.{numbers}
 use Rattle.chain_core.proofs.Rising.{Rises, rises, add_term-below, put-positive}

@@ -2,4 +2,3 @@ pub mod Formal
 pub mod Places
 pub mod Asks
 pub mod Faults
-pub mod SameKey

@@ -1,6 +1,8 @@
 ghost use Rattle.std.specs.Prelude.{[], ◌∷◌};
 ghost use Rattle.fp_field.specs.declared.prime.Prime.TheVariants.{Three};
-ghost use Rattle.chain_core.specs.SameKey.{same_from_equal};
+ghost use Rattle.std.specs.declared.cmp.Ordering.TheVariants.{Equal};
+ghost use Rattle.std.proofs.Common.{sym};
+ghost use Rattle.std.proofs.lemmas.Cmp.{ranked};
 
 use super::*;
 use fp_field::{Fp, Prime};
@@ -32,7 +34,7 @@ impl LinearMap<(), u32, u32> for Same {
         Ok(image)
     }
 
-    ghost one_key = { same_from_equal };
+    ghost one_key = { λ x y e. ranked x y Equal (sym e) };
 }
 
 fn cross<T: Send + Sync + Drop>(_value: T) {}
