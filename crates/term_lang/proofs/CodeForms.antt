@@ -1,5 +1,5 @@
 -- Normal forms of the code for a space whose simplices are those of a table: its cells stand for the rows.
-use Rattle.std.proofs.Common.{◌≡◌, ℕ, ◌+◌, ◌-◌, ◌%◌, ◌^◌, ◌<◌, ◌≤◌, Bool, true, nat_lt, ◌&&◌, List, [], length, refl, sym, ◌∙◌, ap, subst, arith, ◌⊎◌, inl, inr}
+use Rattle.std.proofs.Common.{◌≡◌, ℕ, ◌+◌, ◌-◌, ◌%◌, ◌^◌, ◌<◌, ◌≤◌, Bool, true, nat_lt, ◌&&◌, List, [], length, refl, sym, ◌∙◌, ap, subst, arith, ◌⊎◌, inl, inr, count_ones}
 use Rattle.std.proofs.lemmas.Bool.{cases_lt}
 use Rattle.std.proofs.lemmas.Bool.Decides.{Decides-ltb}
 use Rattle.std.proofs.lemmas.Nat.{pow_pos}
@@ -15,13 +15,15 @@ use Rattle.simp_ops.specs.Words.{IsWord}
 use Rattle.simp_ops.specs.Bits.{bit, mask_word}
 use Rattle.simp_ops.proofs.PlacesOf.{word_below, places_word, is_lt}
 use Rattle.simp_ops.proofs.Squeezed.{and_left, and_right}
-use Rattle.simp_ops.proofs.MaskWords.{mask_of, mask_of-lt, places-mask_of, places_told, places-none, mask_word_below}
+use Rattle.simp_ops.proofs.Numbers.{count-ones}
+use Rattle.simp_ops.proofs.MaskWords.{length-mask_word, mask_of, mask_of-lt, places-mask_of, places_told, places-none, mask_word_below}
 use Rattle.spaces.specs.Simplicial.{IsSimplicial, is_degenerate}
 use Rattle.spaces.specs.Tables.{Table, RowSimplex, InTable, row_at, table_set}
 use Rattle.spaces.specs.Orders.{mask, cell_of, dim_of, row_cmp, two_cmp, simplex_cmp as typed_cmp}
 use Rattle.spaces.proofs.WordLaws.{word_length}
 use Rattle.cells.specs.declared.cells.Cell.{Cell}
 use Rattle.cells.specs.declared.cells.Simplex.{Simplex}
+use Rattle.cells.specs.Dim.{dim_of as cell_dim, degree_of}
 use Rattle.cells.specs.Order.{cell_cmp, simplex_cmp}
 use Rattle.cells.proofs.Compared.{simplex_cmp-then}
 use Rattle.cells.proofs.OneKey.{degens_same}
@@ -57,6 +59,10 @@ word_back n w h is =
 pub degens_back : (d : Degens) → degens_of (mask_of (mask_word d.mask)) ≡ d
 degens_back d = degens_same (degens_of (mask_of (mask_word d.mask))) d (ap (λ k. k % 2 ^ 32) (mask_back d.mask d.below_32) ∙ mod-eq_of_lt d.below_32)
 
+-- how many bits a mask has
+pub count_ones-mask : (m : ℕ) → m < 2 ^ 32 → count_ones m ≡ length (mask_word m)
+count_ones-mask m h = ap count_ones (sym (mod-eq_of_lt h)) ∙ count-ones m 32 ∙ sym (length-mask_word m)
+
 pub lt_is : (a b : ℕ) → nat_lt a b ≡ true → a < b
 lt_is a b h = (Decides-ltb a b).0 h
 
@@ -86,6 +92,7 @@ module _ (t : Table) (plain : Cell → RowSimplex) (test : Cell → ℕ → Bool
     pub stands : (n : ℕ) (c : Cell) → test c n ≡ true → Stands n c
     pub tested : (r : ℕ) → r < length t → test (quote_row (row_at t r).dim ([], r)) (row_at t r).dim ≡ true
     pub formed : (r : ℕ) → r < length t → plain (quote_row (row_at t r).dim ([], r)) ≡ ([], r)
+    pub dims : (n r : ℕ) → r < length t → (row_at t r).dim ≡ n → cell_dim (quote_row n ([], r)) ≡ n
     pub in_order : (n r s : ℕ) → r < length t → s < length t → (row_at t r).dim ≡ n → (row_at t s).dim ≡ n
         → cell_cmp (quote_row n ([], r)) (quote_row n ([], s)) ≡ nat_cmp r s
 
@@ -163,6 +170,14 @@ module _ (t : Table) (plain : Cell → RowSimplex) (test : Cell → ℕ → Bool
             ap (is_degenerate (table_set t) n) k.plain_is
             ∙ degenerate_word t laws n (mask_word x.degens.mask) k.row k.simplex
             (λ e. let z : x.degens.mask ≡ 0 = places_told 32 x.degens.mask 0 x.degens.below_32 (pow_pos 32) (e ∙ sym (places-none 32)) in omega (arith, z, g))
+
+    pub degree : (n : ℕ) (x : Simplex) → n ≤ 32 → is_simplex x n ≡ true → degree_of x ≡ n
+    degree n x h is =
+        let k = known n x is in
+        let w = mask_word x.degens.mask in
+        let d : cell_dim x.cell ≡ n - length w = ap cell_dim (sym k.cell) ∙ rows.dims (n - length w) k.row k.simplex.row k.dim in
+        let b : count_ones x.degens.mask ≡ length w = count_ones-mask x.degens.mask x.degens.below_32 in
+        omega (arith, d, b, word_length n w k.simplex.word)
 
     -- what is quoted, in degree at most 32
     pub onto : (n : ℕ) (y : RowSimplex) → n ≤ 32 → InTable t n y → is_simplex (quote n y) n ≡ true

@@ -12,3 +12,8 @@ pub mod RowFaces
 pub mod OnePoint
 pub mod TableForms
 pub mod SphereForms
+pub mod TermMeasures
+pub mod CocycleRows
+pub mod FaultLaws
+pub mod TermAnswers
+pub mod TwoPoints

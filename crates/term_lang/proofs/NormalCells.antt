@@ -1,5 +1,5 @@
 -- What holds of the simplices of a space and their normal forms holds of its cells and the non-degenerate simplices.
-use Rattle.std.proofs.Common.{◌≡◌, ℕ, zero, suc, ◌+◌, ◌-◌, ◌^◌, ◌<◌, Bool, true, false, cond, ◌||◌, ◌&&◌, length, refl, sym, ◌∙◌, ap, subst, arith, true≢false}
+use Rattle.std.proofs.Common.{◌≤◌, ◌≡◌, ℕ, zero, suc, ◌+◌, ◌-◌, ◌^◌, ◌<◌, Bool, true, false, cond, ◌||◌, ◌&&◌, length, refl, sym, ◌∙◌, ap, subst, arith, true≢false, count_ones, lit<}
 use Rattle.std.proofs.lemmas.Nat.{pow_pos}
 use Rattle.simp_ops.proofs.PlacesOf.{is_lt}
 use Rattle.simp_ops.proofs.MaskWords.{places-none}
@@ -8,6 +8,7 @@ use Rattle.spaces.specs.Spaces.{Space, Plain, set_of}
 use Rattle.spaces.specs.Orders.{mask, cell_of, dim_of, ordered}
 use Rattle.cells.specs.declared.cells.Cell.{Cell}
 use Rattle.cells.specs.declared.cells.Simplex.{Simplex}
+use Rattle.cells.specs.Dim.{dim_of as cell_dim, capped}
 use Rattle.cells.specs.Order.{cell_cmp, simplex_cmp}
 use Rattle.cells.proofs.Compared.{simplex_cmp-then}
 use Rattle.term_lang.specs.Degenerated.{degenerated}
@@ -15,6 +16,7 @@ use Rattle.term_lang.specs.Forms.{cell_form, form}
 use Rattle.term_lang.specs.Belongs.{is_cell, is_simplex, IsCell, IsSimplex}
 use Rattle.term_lang.specs.Quote.{degens_of, quote_cell, quote}
 use Rattle.term_lang.specs.NormalForms.{HasNormalForms, HasNormalCells}
+use Rattle.term_lang.proofs.CodeForms.{count_ones-mask}
 
 -- ---- a simplex that is not degenerate has no mask, and is its own cell
 
@@ -65,7 +67,7 @@ not_true : (b : Bool) → (b ≡ true → ⊥) → b ≡ false
 not_true true h = absurd (h refl)
 not_true false h = refl
 
-module _ (X : Space) (n : ℕ) (forms : HasNormalForms X n) where
+module _ (X : Space) (n : ℕ) (most : n ≤ 32) (forms : HasNormalForms X n) where
   as_simplex : (c : Cell) → IsCell X n c → IsSimplex X n (bare c)
   as_simplex c is = bare-is X n c ∙ is
 
@@ -76,6 +78,10 @@ module _ (X : Space) (n : ℕ) (forms : HasNormalForms X n) where
 
   pub normal_cells : HasNormalCells X n
   normal_cells = record {
+    dimension = λ c is.
+        let none : count_ones 0 ≡ 0 = count_ones-mask 0 (lit< tt) ∙ ap length (places-none 32) in
+        let d : capped (count_ones 0 + cell_dim c) ≡ n = forms.degree (bare c) (as_simplex c is) in
+        omega (arith, none, d);
     simplex = λ c is. subst ((set_of X).In n) (bare-form X c) (forms.simplex (bare c) (as_simplex c is));
     not_degenerate = not_degenerate;
     once = λ c d is js e.

@@ -14,6 +14,8 @@ use Rattle.cells.specs.declared.cells.Cell.TheVariants.{Top, rolls-Base, rolls-T
 use Rattle.cells.specs.declared.cells.Cell.TheOpen.{Cell-F}
 use Rattle.cells.specs.declared.cells.Letter.{Letter}
 use Rattle.cells.specs.declared.cells.Simplex.{Simplex}
+use Rattle.cells.specs.Dim.{dim_of}
+use Rattle.cells.proofs.Dimensions.{dim-Base, dim-Top}
 use Rattle.cells.specs.Order.{cell_cmp}
 use Rattle.term_lang.specs.Forms.{cell_form}
 use Rattle.term_lang.specs.Belongs.{is_cell}
@@ -23,7 +25,7 @@ use Rattle.term_lang.proofs.CellForms.{tested, is_cell-roll, is_cell-Base, is_ce
 use Rattle.term_lang.proofs.MaskedForms.{masked_forms}
 use Rattle.term_lang.proofs.NormalCells.{normal_cells}
 use Rattle.term_lang.proofs.RowCells.{eq_is, cell_cmp-same}
-use Rattle.term_lang.proofs.CodeForms.{Stands, StandForRows, simplex, once, onto, degenerate, quoted, formed, in_order}
+use Rattle.term_lang.proofs.CodeForms.{Stands, StandForRows, degree, simplex, once, onto, degenerate, quoted, formed, in_order}
 
 module _ (m : ℕ) where
   abbrev pub rows : Table
@@ -92,6 +94,11 @@ module _ (m : ℕ) where
         ap (λ k. cell_cmp (sphere_cell n ([], k)) (sphere_cell n ([], s))) g ∙ cell_cmp-same (sphere_cell n ([], s))
         ∙ sym (ap (λ k. nat_cmp k s) g ∙ tied_itself nat_cmp_total s)
 
+    dims_of_rows : (n r : ℕ) → r < 2 → (row_at rows r).dim ≡ n → dim_of (sphere_cell n ([], r)) ≡ n
+    dims_of_rows n zero h e = ap (λ k. dim_of (sphere_cell k ([], 0))) (sym e) ∙ dim-Base ∙ e
+    dims_of_rows n (suc zero) h e = ap dim_of (top_is n (sym e) ([], 1)) ∙ dim-Top n
+    dims_of_rows n (suc (suc r)) h e = absurd (omega arith)
+
     pub stand_for_rows : StandForRows rows plain test sphere_cell
     stand_for_rows = record {
       stands = λ n c h.
@@ -99,6 +106,7 @@ module _ (m : ℕ) where
           (in_layer n (out-Cell c) (ap (λ f. f (sphere m) n) (sym (is_cell-roll (out-Cell c))) ∙ ap (λ d. is_cell d (sphere m) n) (roll-out-Cell c) ∙ h));
       tested = tested_row;
       formed = formed_row;
+      dims = dims_of_rows;
       in_order = rows_in_order;
     }
 
@@ -110,6 +118,7 @@ module _ (m : ℕ) where
 
     pub sphere_forms : (n : ℕ) → n ≤ 32 → HasNormalForms (sphere m) n
     sphere_forms n h = record {
+      degree = λ x is. degree rows plain test sphere_cell laws stand_for_rows n x h is;
       simplex = simplex rows plain test sphere_cell laws stand_for_rows n;
       once = once rows plain test sphere_cell laws stand_for_rows n;
       onto = λ y is. onto rows plain test sphere_cell laws stand_for_rows n y h is;
@@ -120,4 +129,4 @@ module _ (m : ℕ) where
     }
 
     pub sphere_cells : (n : ℕ) → n ≤ 32 → HasNormalCells (sphere m) n
-    sphere_cells n h = normal_cells (sphere m) n (sphere_forms n h)
+    sphere_cells n h = normal_cells (sphere m) n h (sphere_forms n h)

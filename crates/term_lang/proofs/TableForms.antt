@@ -12,6 +12,7 @@ use Rattle.cells.specs.declared.cells.Cell.TheVariants.{Row, rolls-Row}
 use Rattle.cells.specs.declared.cells.Cell.TheOpen.{Cell-F}
 use Rattle.cells.specs.declared.cells.Letter.{Letter}
 use Rattle.cells.specs.declared.cells.Simplex.{Simplex}
+use Rattle.cells.proofs.Dimensions.{dim-Row}
 use Rattle.term_lang.specs.Forms.{cell_form}
 use Rattle.term_lang.specs.Belongs.{is_cell}
 use Rattle.term_lang.specs.Quote.{row_cell}
@@ -20,7 +21,7 @@ use Rattle.term_lang.proofs.CellForms.{tested, is_cell-roll, is_cell-Row, form-R
 use Rattle.term_lang.proofs.MaskedForms.{masked_forms}
 use Rattle.term_lang.proofs.NormalCells.{normal_cells}
 use Rattle.term_lang.proofs.RowCells.{eq_is, rows_cmp}
-use Rattle.term_lang.proofs.CodeForms.{Stands, StandForRows, lt_is, simplex, once, onto, degenerate, quoted, formed, in_order}
+use Rattle.term_lang.proofs.CodeForms.{Stands, StandForRows, lt_is, degree, simplex, once, onto, degenerate, quoted, formed, in_order}
 
 module _ (t : Table) where
   abbrev pub plain : Cell → RowSimplex
@@ -54,6 +55,7 @@ module _ (t : Table) where
         ap (λ f. f (table t) (row_at t r).dim) (is_cell-Row (row_at t r).dim r)
         ∙ (λ i. is_lt r (length t) h i && is_eq (row_at t r).dim (row_at t r).dim refl i && is_eq (row_at t r).dim (row_at t r).dim refl i);
     formed = λ r h. ap (λ c. c (table t)) (form-Row (row_at t r).dim r);
+    dims = λ n r h e. dim-Row n r;
     in_order = λ n r s h l e f. rows_cmp n r s;
   }
 
@@ -65,6 +67,7 @@ table_forms t is n h =
     let laws : IsSimplicial (table_set t) = table_set_laws t is.faces in
     let rows = stand_for_rows t in
     record {
+      degree = λ x is. degree t (plain t) (test t) row_cell laws rows n x h is;
       simplex = simplex t (plain t) (test t) row_cell laws rows n;
       once = once t (plain t) (test t) row_cell laws rows n;
       onto = λ y is. onto t (plain t) (test t) row_cell laws rows n y h is;
@@ -75,4 +78,4 @@ table_forms t is n h =
     }
 
 pub table_cells : (t : Table) → IsTable t → (n : ℕ) → n ≤ 32 → HasNormalCells (table t) n
-table_cells t is n h = normal_cells (table t) n (table_forms t is n h)
+table_cells t is n h = normal_cells (table t) n h (table_forms t is n h)

@@ -15,7 +15,7 @@ use Rattle.cells.specs.declared.cells.Letter.{Letter}
 use Rattle.cells.specs.declared.cells.Simplex.{Simplex}
 use Rattle.term_lang.specs.Degenerated.{degenerated}
 
--- the vertex of a space that has one, degenerate in no degree; for a table row 0
+-- a vertex of the space, which is the one where there is only one
 abbrev pub vertex_of : (X : Space) → Plain X
 vertex_of (table t) = ([], 0)
 vertex_of (sphere m) = ([], 0)

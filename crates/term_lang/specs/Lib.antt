@@ -7,3 +7,4 @@ pub mod Belongs
 pub mod Quote
 pub mod NormalForms
 pub mod TermOrder
+pub mod TermFaults

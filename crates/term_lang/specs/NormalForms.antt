@@ -14,6 +14,7 @@ use Rattle.spaces.specs.Spaces.{Space, Plain, set_of}
 use Rattle.spaces.specs.Orders.{ordered}
 use Rattle.cells.specs.declared.cells.Cell.{Cell}
 use Rattle.cells.specs.declared.cells.Simplex.{Simplex}
+use Rattle.cells.specs.Dim.{dim_of, degree_of}
 use Rattle.cells.specs.Order.{cell_cmp, simplex_cmp}
 use Rattle.term_lang.specs.Forms.{cell_form, form}
 use Rattle.term_lang.specs.Belongs.{IsCell, IsSimplex}
@@ -42,9 +43,10 @@ module _ (t : Table) where
     pub onto : (x : RowSimplex) → InTable t n x → (s : Masked) × IsMasked n s × (masked_form n s ≡ x)
     pub degenerate : (s : Masked) → IsMasked n s → (is_degenerate (table_set t) n (masked_form n s) ≡ true) ↔ (0 < s.mask)
 
--- The simplices of the code of degree n are one to one onto those of the space, the non-degenerate ones are those with the mask 0, they
--- are quoted back, and they stand in the order of the space.
+-- The simplices of the code of degree n have that degree, they are one to one onto those of the space, the non-degenerate ones are those
+-- with the mask 0, they are quoted back, and they stand in the order of the space.
 pub record HasNormalForms (X : Space) (n : ℕ) : Type 0 where
+  pub degree : (x : Simplex) → IsSimplex X n x → degree_of x ≡ n
   pub simplex : (x : Simplex) → IsSimplex X n x → (set_of X).In n (form x X)
   pub once : (x y : Simplex) → IsSimplex X n x → IsSimplex X n y → form x X ≡ form y X → x ≡ y
   pub onto : (y : Plain X) → (set_of X).In n y → IsSimplex X n (quote X n y)
@@ -53,8 +55,9 @@ pub record HasNormalForms (X : Space) (n : ℕ) : Type 0 where
   pub formed : (y : Plain X) → (set_of X).In n y → form (quote X n y) X ≡ y
   pub in_order : (x y : Simplex) → IsSimplex X n x → IsSimplex X n y → simplex_cmp x y ≡ (ordered X).cmp n (form x X) (form y X)
 
--- So are the cells of the code of dimension n onto the non-degenerate simplices.
+-- The cells of the code of dimension n have that dimension, and are one to one onto the non-degenerate simplices, as above.
 pub record HasNormalCells (X : Space) (n : ℕ) : Type 0 where
+  pub dimension : (c : Cell) → IsCell X n c → dim_of c ≡ n
   pub simplex : (c : Cell) → IsCell X n c → (set_of X).In n (cell_form c X)
   pub not_degenerate : (c : Cell) → IsCell X n c → is_degenerate (set_of X) n (cell_form c X) ≡ false
   pub once : (c d : Cell) → IsCell X n c → IsCell X n d → cell_form c X ≡ cell_form d X → c ≡ d

@@ -1,7 +1,12 @@
 //! Terms, which name spaces: tables, names, copies, and what the simplices of the code stand for.
 #![tactic(auto)]
 
+mod check;
+#[cfg(test)]
+mod check_tests;
+mod faults;
 mod laws;
+mod measures;
 mod names;
 mod order;
 mod row_faces;
@@ -16,7 +21,10 @@ pub use cells::{
     Cell, IntList, Letter, LetterList, Simplex, SmallCell, SmallList, copy_cell, copy_letters,
     copy_simplex, copy_small, degree, dim, small_degree,
 };
+pub use check::check_term;
+pub use faults::TermFault;
 pub use laws::{one_term, sphere_normal_forms, table_normal_forms, words_before_simplices};
+pub use measures::{depth, low, vertices};
 pub use names::{Name, name_of};
 pub use row_faces::table_face;
 pub use simplicial::Faces;

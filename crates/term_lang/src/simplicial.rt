@@ -9,19 +9,21 @@ ghost use Rattle.term_lang.specs.Forms.{form};
 use cells::Simplex;
 use std::alloc::{AllocError, Global};
 
-/// A simplicial set by its faces and degeneracies (May, Simplicial Objects, chapter I, 1). Its
-/// meanings are a space, whose simplicial identities hold, and the simplices of which faces and
-/// degeneracies may be asked.
+/// A simplicial set by its faces and degeneracies (May, Simplicial Objects, chapter I, 1).
 pub trait Faces {
     ghost use Rattle.std.specs.Prelude.{ℕ};
     ghost use Rattle.cells.specs.declared.cells.Simplex.{Simplex};
 
+    // The space whose simplices are meant.
     ghost space: { Self → Space };
 
+    // The simplices of which a face may be asked, as far as degrees and integers go.
     ghost has_faces: { Self → Simplex → Type 0 };
 
+    // The simplices of which a degeneracy may be asked.
     ghost has_degeneracies: { Self → Simplex → Type 0 };
 
+    // The simplicial identities hold of the space.
     ghost identities: { (s : Self) → IsSimplicial (set_of (space s)) };
 
     /// The face d_i of a simplex of degree 1 or more, with i at most the degree.

@@ -6,7 +6,8 @@ use cells::IntList;
 use seqs::{Arc, Box};
 use std::alloc::{AllocError, Global};
 
-/// The name of a space. Terms are ordered by kind and then by what they hold; equal terms are the same.
+/// The name of a space. Terms are ordered by kind and then by what they hold, and terms that are
+/// equal hold the same.
 #[derive(Debug, Drop)]
 pub enum Term {
     /// The simplicial set of a table.
@@ -19,7 +20,8 @@ pub enum Term {
     Suspension(Box<Term>),
     /// K(Z,1), the nerve of the integers.
     KZ1,
-    /// The bundle with fibre K(Z,1) over a table, by one integer for each row, 0 at rows that are not of dimension 2.
+    /// The bundle with fibre K(Z,1) over a table, by one integer for each row, 0 at rows that are not
+    /// of dimension 2.
     Bundle(Table, IntList),
     /// The loop group of a space with one vertex.
     Loop(Box<Term>),

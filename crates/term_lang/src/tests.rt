@@ -9,7 +9,7 @@ use std::test::Fail;
 fn takes<T: Send + Sync + Drop>(_value: T) {}
 
 // The table of one vertex.
-fn point(alloc: Global, name: Name) -> Result<Table, AllocError> {
+pub fn point(alloc: Global, name: Name) -> Result<Table, AllocError> {
     let mut rows = RowList::new(alloc);
     rows.push(Row {
         name,

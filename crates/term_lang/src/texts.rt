@@ -84,6 +84,13 @@ impl FaceTextList {
     {
         self.texts.len()
     }
+
+    /// The faces in order.
+    pub fn as_slice(&self) -> &[FaceText]
+        ensures { result.now ≡ self.now }
+    {
+        self.texts.as_slice()
+    }
 }
 
 impl Model for RowTextList {
@@ -128,5 +135,12 @@ impl RowTextList {
         ensures { result ≡ length self.now }
     {
         self.texts.len()
+    }
+
+    /// The rows in order.
+    pub fn as_slice(&self) -> &[RowText]
+        ensures { result.now ≡ self.now }
+    {
+        self.texts.as_slice()
     }
 }
