@@ -3,6 +3,7 @@ pub mod Asking
 pub mod Cutting
 pub mod Leading
 pub mod Reading
+pub mod SphereDims
 pub mod Texts
 pub mod Truth
 pub mod Whole

@@ -1,29 +1,42 @@
 -- Each line is answered by what it asks.
-use Rattle.std.proofs.Common.{◌≡◌, ◌≢◌, ℕ, ◌<◌, List, [], ◌∷◌, length, map, Option, Some, None, Bool, true, false, sym, ◌∙◌, ap, refl, arith, subst, if◌then◌else◌, ◌==◌, ◌||◌, nat_lt, ◌≤◌, ◌⊎◌, inl, inr, IfSome}
+use Rattle.std.proofs.Common.{◌≡◌, ◌≢◌, ℕ, zero, suc, ◌<◌, List, [], ◌∷◌, length, map, Option, Some, None, Bool, true, false, sym, ◌∙◌, ap, refl, arith, subst, if◌then◌else◌, cond, ◌==◌, ◌||◌, nat_lt, ◌≤◌, ◌⊎◌, inl, inr, IfSome}
 use Rattle.std.proofs.lemmas.Bool.Decides.{nat_tests}
 use Rattle.spaces.specs.Homology.{HomologyList}
-use Rattle.spaces.specs.Spaces.{set_of, sphere}
+use Rattle.spaces.specs.Spaces.{Space, Plain, set_of, sphere}
+use Rattle.term_lang.proofs.CellForms.{form-Base, form-Top}
 use Rattle.spaces.specs.Tables.{sphere_rows}
-use Rattle.spaces.specs.SphereCycles.{sphere_cycles}
+use Rattle.spaces.specs.SphereCycles.{sphere_cycles, single}
 use Rattle.spaces.proofs.SphereHomology.{sphere_homology_list}
 use Rattle.spaces.proofs.SphereTable.{sphere_faces}
 use Rattle.spaces.proofs.TableLaws.{table_set_laws}
 use Rattle.kernel_run.specs.Questions.{IsQuestion, question_text, question_of}
-use Rattle.kernel_run.specs.Cycles.{cycles_of, chain_of}
+use Rattle.kernel_run.specs.Cycles.{dims_at, cycle_at, cycles_of, chain_of}
 use Rattle.kernel_run.specs.Replies.{reply_to, reply_to_question, is_empty}
 use Rattle.kernel_run.specs.Truth.{IsAnswered, AreHomologyLists}
 use Rattle.kernel_run.specs.declared.reply.Reply.TheVariants.{Empty, Homology, BadSphere, Degree}
 use Rattle.kernel_run.specs.declared.reply.Reply.{Reply}
 use Rattle.kernel_run.proofs.Asking.{unasked, question_asked}
 
-same_cycles : (n k : ℕ) (zero top : Bool) → zero ≡ (k == 0) → top ≡ (k == n) → sphere_cycles n k ≡ map chain_of (cycles_of n k)
-same_cycles n k true top z t = rw (sym z) refl
-same_cycles n k false true z t = rw (sym z, sym t) refl
-same_cycles n k false false z t = rw (sym z, sym t) refl
+-- the cell of a sphere is the simplex of its table
+form-base : (n : ℕ) → chain_of n (cycle_at 0) ≡ (([], 0), 1) ∷ []
+form-base n = ap (λ (f : (X : Space) → Plain X). (f (sphere n), 1) ∷ []) form-Base
 
-homology : (n k : ℕ) → 0 < n → HomologyList (set_of (sphere n)) 2 k (map chain_of (cycles_of n k))
+form-top : (n : ℕ) → 0 < n → chain_of n (cycle_at n) ≡ (([], 1), 1) ∷ []
+form-top zero h = absurd (omega (arith, h))
+form-top (suc n) h = ap (λ (f : (X : Space) → Plain X). (f (sphere (suc n)), 1) ∷ []) (form-Top (suc n))
+
+same_cycles : (n k : ℕ) → 0 < n → sphere_cycles n k ≡ map (chain_of n) (cycles_of n k)
+same_cycles n zero some = ap (λ c. c ∷ []) (sym (form-base n))
+same_cycles n (suc k) some =
+    ap (λ b. map single (cond b (([], 0) ∷ []) (cond (suc k == n) (([], 1) ∷ []) []))) (let e : (suc k == 0) ≡ false = grind (arith, nat_tests) in e) ∙ by (suc k == n)
+  where
+    by : (b : Bool) → map single (cond b (([], 1) ∷ []) []) ≡ map (chain_of n) (map cycle_at (if b then n ∷ [] else []))
+    by true = ap (λ c. c ∷ []) (sym (form-top n some))
+    by false = refl
+
+homology : (n k : ℕ) → 0 < n → HomologyList (set_of (sphere n)) 2 k (map (chain_of n) (cycles_of n k))
 homology n k some =
-    subst (λ zs. HomologyList (set_of (sphere n)) 2 k zs) (same_cycles n k (k == 0) (k == n) refl refl)
+    subst (λ zs. HomologyList (set_of (sphere n)) 2 k zs) (same_cycles n k some)
     (sphere_homology_list n some (table_set_laws (sphere_rows n) (sphere_faces n some)) 2 (omega arith) k)
 
 reply_to-some : (line : List ℕ) → 0 < length line → reply_to line ≡ reply_to_question (question_of line)
@@ -47,7 +60,7 @@ reply_to-none line e = subst (λ l. reply_to l ≡ Empty) (sym e) refl
 
 -- the reply to a question, by where its numbers lie
 abbrev choice : Bool → Bool → ℕ → ℕ → Reply
-choice bad high n k = if bad then BadSphere n else (if high then Degree k else Homology (cycles_of n k))
+choice bad high n k = if bad then BadSphere n else (if high then Degree k else Homology (dims_at n k))
 
 chosen : (line : List ℕ) (n k : ℕ) (bad high : Bool) → IsQuestion line n k → (n == 0) || nat_lt 16 n ≡ bad → nat_lt 16 k ≡ high
     → reply_to line ≡ choice bad high n k

@@ -10,14 +10,14 @@ use Rattle.std.specs.Prelude.{◌≡◌, ◌≢◌, ◌<◌, ◌≤◌, ◌⊎�
 use Rattle.spaces.specs.Homology.{HomologyList}
 use Rattle.spaces.specs.Spaces.{set_of, sphere}
 use Rattle.kernel_run.specs.Questions.{IsQuestion}
-use Rattle.kernel_run.specs.Cycles.{cycles_of, chain_of}
+use Rattle.kernel_run.specs.Cycles.{dims_at, cycles_of, chain_of}
 use Rattle.kernel_run.specs.Replies.{reply_to}
 use Rattle.kernel_run.specs.Fresh.{answered_lines}
 use Rattle.kernel_run.specs.declared.reply.Reply.TheVariants.{Empty, Homology, BadSphere, Degree, NotBuilt}
 
 pub record IsAnswered (line : List ℕ) : Type 0 where
-  pub question : (n k : ℕ) → IsQuestion line n k → 0 < n → n ≤ 16 → k ≤ 16 → reply_to line ≡ Homology (cycles_of n k)
-  pub homology : (n k : ℕ) → IsQuestion line n k → 0 < n → HomologyList (set_of (sphere n)) 2 k (map chain_of (cycles_of n k))
+  pub question : (n k : ℕ) → IsQuestion line n k → 0 < n → n ≤ 16 → k ≤ 16 → reply_to line ≡ Homology (dims_at n k)
+  pub homology : (n k : ℕ) → IsQuestion line n k → 0 < n → HomologyList (set_of (sphere n)) 2 k (map (chain_of n) (cycles_of n k))
   -- the sphere is looked at before the degree
   pub no_sphere : (n k : ℕ) → IsQuestion line n k → (n ≡ 0) ⊎ (16 < n) → reply_to line ≡ BadSphere n
   pub no_degree : (n k : ℕ) → IsQuestion line n k → 0 < n → n ≤ 16 → 16 < k → reply_to line ≡ Degree k

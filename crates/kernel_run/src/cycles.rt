@@ -1,52 +1,46 @@
 // The cycles that are listed for the homology of a sphere.
-ghost use Rattle.std.specs.Prelude.{◌≡◌, IfOk, [], ◌∷◌, ◌++◌, OnOk, length, map};
-ghost use Rattle.kernel_run.specs.Cycles.{cycles_of, one_cell};
+ghost use Rattle.std.specs.Prelude.{◌≡◌, ◌≤◌, IfOk};
+ghost use Rattle.kernel_run.specs.Cycles.{dims_at};
 
+use finite_sets::sphere_table;
 use std::alloc::{AllocError, Global};
 use std::marker::Model;
 
-/// A non-degenerate simplex of a sphere: the base point, or the simplex of the sphere's own dimension.
-#[derive(Clone, Copy, Debug, PartialEq, Eq)]
-pub(crate) enum SphereCell {
-    Base,
-    Top(u32),
-}
-
-/// Cycles of one cell each.
+/// Cycles that are one cell of a sphere each, which contracts see as the dimensions of the cells.
 #[derive(Debug, Drop)]
 pub(crate) struct CycleList {
-    cells: Vec<SphereCell>,
+    dims: Vec<u32>,
 }
 
 impl Model for CycleList {
-    ghost use Rattle.std.specs.Prelude.{List, map};
-    ghost use Rattle.fp_field.specs.Chains.{Terms};
-    ghost use Rattle.kernel_run.specs.Cycles.{one_cell};
-    ghost use Rattle.kernel_run.specs.declared.cycles.SphereCell.{SphereCell};
+    ghost use Rattle.std.specs.Prelude.{List, ℕ};
 
-    ghost Value = { List (Terms SphereCell) };
+    ghost Value = { List ℕ };
 
-    ghost view = { λ list. map one_cell list.cells.items };
+    ghost view = { λ list. list.dims.items };
 }
 
 impl CycleList {
-    /// The cells of the cycles, in order.
-    pub(crate) fn cells(&self) -> &[SphereCell]
-        ensures { map one_cell result.now ≡ self.now }
+    /// The dimensions of the cells, in order.
+    pub(crate) fn dims(&self) -> &[u32]
+        ensures { result.now ≡ self.now }
     {
-        &self.cells
+        &self.dims
     }
 }
 
-/// The cycles that are listed in degree k of the sphere of dimension n.
-pub(crate) fn cycles_of(alloc: Global, n: u32, k: u32) -> Result<CycleList, AllocError>
-    ensures { IfOk result (λ list. list ≡ cycles_of n k) }
+/// The cycles that are listed in degree k of the sphere of dimension n, found among the rows of its table.
+pub(crate) fn listed_cycles(alloc: Global, n: u32, k: u32) -> Result<CycleList, AllocError>
+    requires low { 1 ≤ n }
+    requires high { n ≤ 16 }
+    ensures { IfOk result (λ list. list ≡ dims_at n k) }
 {
-    let mut cells = Vec::new(alloc);
-    if k == 0 {
-        cells.push(SphereCell::Base)?;
-    } else if k == n {
-        cells.push(SphereCell::Top(n))?;
+    let table = sphere_table(alloc, n)?;
+    let mut dims = Vec::new(alloc);
+    for row in table.rows().as_slice() {
+        if row.dim == k {
+            dims.push(row.dim)?;
+        }
     }
-    Ok(CycleList { cells })
+    Ok(CycleList { dims })
 }

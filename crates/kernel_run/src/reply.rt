@@ -1,10 +1,10 @@
 // The reply to one line, and its text.
-ghost use Rattle.std.specs.Prelude.{◌≡◌, ◌++◌, IfOk, string_bytes, codes, Some};
-ghost use Rattle.kernel_run.specs.Cycles.{one_cell};
+ghost use Rattle.std.specs.Prelude.{◌≡◌, ◌++◌, IfOk, string_bytes, codes, Some, map};
+ghost use Rattle.kernel_run.specs.Cycles.{cycle_at};
 ghost use Rattle.kernel_run.specs.Replies.{reply_to, reply_to_question, text_of, homology_text, chain_text};
 ghost use Rattle.kernel_run.specs.Fresh.{text_to};
 
-use crate::cycles::{CycleList, SphereCell, cycles_of};
+use crate::cycles::{CycleList, listed_cycles};
 use crate::question::{Question, question_of};
 use std::alloc::{AllocError, Global};
 
@@ -49,7 +49,7 @@ fn reply_to_question(alloc: Global, question: Question) -> Result<Reply, AllocEr
     if question.degree > 16 {
         return Ok(Reply::Degree(question.degree));
     }
-    let cycles = cycles_of(alloc, question.sphere as u32, question.degree as u32)?;
+    let cycles = listed_cycles(alloc, question.sphere as u32, question.degree as u32)?;
     Ok(Reply::Homology(cycles))
 }
 
@@ -67,22 +67,23 @@ fn text_of(alloc: Global, reply: &Reply) -> Result<String, AllocError>
 }
 
 fn homology_text(alloc: Global, cycles: &CycleList) -> Result<String, AllocError>
-    ensures { IfOk result (λ text. string_bytes text ≡ homology_text cycles.now) }
+    ensures { IfOk result (λ text. string_bytes text ≡ homology_text (map cycle_at cycles.now)) }
 {
-    let cells = cycles.cells();
-    let mut text = format!(in alloc; "homology {}\n", cells.len())?;
-    for cell in cells {
-        text.push_str(&cycle_line(alloc, *cell)?)?;
+    let dims = cycles.dims();
+    let mut text = format!(in alloc; "homology {}\n", dims.len())?;
+    for dim in dims {
+        text.push_str(&cycle_line(alloc, *dim)?)?;
     }
     Ok(text)
 }
 
-// The line of a cycle that is one cell.
-fn cycle_line(alloc: Global, cell: SphereCell) -> Result<String, AllocError>
-    ensures { IfOk result (λ text. string_bytes text ≡ chain_text (one_cell cell) ++ codes "\n") }
+// The line of a cycle that is the cell of this dimension.
+fn cycle_line(alloc: Global, dim: u32) -> Result<String, AllocError>
+    ensures { IfOk result (λ text. string_bytes text ≡ chain_text (cycle_at dim) ++ codes "\n") }
 {
-    match cell {
-        SphereCell::Base => String::from_str(alloc, "(1 *)\n"),
-        SphereCell::Top(dimension) => format!(in alloc; "(1 S{dimension})\n"),
+    if dim == 0 {
+        String::from_str(alloc, "(1 *)\n")
+    } else {
+        format!(in alloc; "(1 S{dim})\n")
     }
 }

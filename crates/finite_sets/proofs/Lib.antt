@@ -1,0 +1,14 @@
+pub mod Unnamed
+pub mod SphereRows
+pub mod FirstFault
+pub mod PlaceOf
+pub mod WordTests
+pub mod Entries
+pub mod ListFault
+pub mod FaceFaults
+pub mod FaceOn
+pub mod RowLaws
+pub mod OwnFaults
+pub mod Prefix
+pub mod TableFaults
+pub mod Building

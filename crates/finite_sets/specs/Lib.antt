@@ -1,0 +1,5 @@
+pub mod Spheres
+pub mod Bases
+pub mod Meaning
+pub mod Faults
+pub mod Progress

@@ -1,0 +1,16 @@
+//! Finite simplicial sets: tables of the code are built from rows as they are written, and from spheres.
+#![tactic(auto)]
+
+mod bases;
+mod faces;
+mod faults;
+mod laws;
+mod spheres;
+mod tables;
+#[cfg(test)]
+mod tests;
+
+pub use bases::{BaseFault, bundle_base};
+pub use faults::TableFault;
+pub use spheres::sphere_table;
+pub use tables::{build_table, table_faults};
