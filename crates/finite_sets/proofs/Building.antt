@@ -1,5 +1,5 @@
 -- One more row is built.
-use Rattle.std.proofs.Common.{◌≡◌, ℕ, zero, suc, ◌+◌, ◌-◌, ◌<◌, ◌≤◌, ◌⊎◌, inl, inr, cond, List, [], ◌∷◌, ◌++◌, length, map, take, get_or, Option, Some, None, refl, sym, ◌∙◌, ap, subst, arith}
+use Rattle.std.proofs.Common.{◌≡◌, ℕ, suc, ◌+◌, ◌<◌, ◌≤◌, ◌⊎◌, inl, inr, cond, List, [], ◌∷◌, ◌++◌, length, take, Some, None, refl, sym, ◌∙◌, ap, subst, arith}
 use Rattle.std.specs.Ordering.{is_eq, nat_cmp}
 use Rattle.std.specs.Cmp.Lexicographic.{slice_cmp}
 use Rattle.std.specs.Map.{lookup}
@@ -7,14 +7,14 @@ use Rattle.std.specs.BTreeMap.{is_at}
 use Rattle.std.proofs.lemmas.Bool.{cases_lt}
 use Rattle.std.proofs.lemmas.List.{length-map, length-take-le, map_push, take_more, take_all}
 use Rattle.simp_ops.proofs.PlacesOf.{not_lt}
-use Rattle.spaces.specs.Tables.{Table, Row as TableRow, entry, row_at, listed_face, row_face, InTable}
+use Rattle.spaces.specs.Tables.{Table, Row as TableRow, row_face, InTable}
 use Rattle.spaces.specs.Allowed.{IsTable, face_count}
 use Rattle.term_lang.specs.declared.tables.Row.{Row}
 use Rattle.term_lang.specs.declared.texts.RowText.{RowText}
 use Rattle.term_lang.specs.Rows.{rows_of, row_of}
 use Rattle.finite_sets.specs.Meaning.{place_of, text_at, row_meant, meaning_of}
 use Rattle.finite_sets.specs.Faults.{first_below, own_fault, law_fault, list_fault, row_fault, fault_of}
-use Rattle.finite_sets.specs.Progress.{Places, place_in, place_before, IsBuilt, HasSimplices}
+use Rattle.finite_sets.specs.Progress.{Places, place_in, IsBuilt, HasSimplices}
 use Rattle.finite_sets.proofs.Entries.{entry-get_or}
 use Rattle.finite_sets.proofs.FirstFault.{first_below-none, none_more}
 use Rattle.finite_sets.proofs.ListFault.{list_faultless}

@@ -1,24 +1,22 @@
 -- The fault of a face.
-use Rattle.std.proofs.Common.{◌≡◌, ℕ, ◌+◌, ◌-◌, ◌<◌, ◌≤◌, ◌≢◌, Bool, true, false, cond, List, [], length, take, map, Option, Some, None, refl, sym, ◌∙◌, ap, arith}
+use Rattle.std.proofs.Common.{◌≡◌, ℕ, ◌-◌, ◌<◌, Bool, true, false, cond, List, [], length, Some, None, refl, sym, ◌∙◌, ap}
 use Rattle.std.specs.Bool.{Decides}
 use Rattle.std.specs.List.{slice_get}
 use Rattle.std.proofs.lemmas.Option.{cond_some}
-use Rattle.std.proofs.lemmas.List.{length-map}
 use Rattle.std.proofs.lemmas.Bool.Decides.{Decides-ltb}
-use Rattle.simp_ops.specs.Words.{IsWord}
-use Rattle.simp_ops.proofs.PlacesOf.{is_lt, not_lt}
-use Rattle.spaces.specs.Tables.{Table, RowSimplex, row_at, row_degree, InTable}
+use Rattle.simp_ops.proofs.PlacesOf.{is_lt}
+use Rattle.spaces.specs.Tables.{RowSimplex, row_at, InTable}
 use Rattle.term_lang.specs.declared.tables.Row.{Row}
 use Rattle.term_lang.specs.declared.texts.FaceText.{FaceText}
 use Rattle.term_lang.specs.declared.texts.RowText.{RowText}
-use Rattle.term_lang.specs.Rows.{rows_of, row_of}
+use Rattle.term_lang.specs.Rows.{row_of}
 use Rattle.finite_sets.specs.declared.faults.TableFault.TheVariants.{BadDimension, UnknownCell}
-use Rattle.finite_sets.specs.Meaning.{place_of, text_at, face_at, face_meant, meaning_of, row_meant}
-use Rattle.finite_sets.specs.Faults.{Fault, unless, is_before, is_word, is_in, face_fault}
-use Rattle.finite_sets.specs.Progress.{Places, place_in, place_before, IsBuilt}
-use Rattle.finite_sets.proofs.FirstFault.{or_else-none, none_both, or_else-some, or_else-second, unless-none, none_unless, unless-false}
+use Rattle.finite_sets.specs.Meaning.{place_of, text_at, face_at, face_meant, meaning_of}
+use Rattle.finite_sets.specs.Faults.{Fault, unless, is_before, is_in, face_fault}
+use Rattle.finite_sets.specs.Progress.{Places, place_in, IsBuilt}
+use Rattle.finite_sets.proofs.FirstFault.{or_else-none, or_else-some, or_else-second, unless-none, none_unless, unless-false}
 use Rattle.finite_sets.proofs.Entries.{entry-take, row_got}
-use Rattle.finite_sets.proofs.WordTests.{Decides-is_word, Decides-is_in}
+use Rattle.finite_sets.proofs.WordTests.{Decides-is_in}
 
 pub not_decided : {P : Type 0} (b : Bool) → Decides b P → (P → ⊥) → b ≡ false
 not_decided true d n = absurd (n (d.0 refl))

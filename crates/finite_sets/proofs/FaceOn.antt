@@ -1,5 +1,5 @@
 -- A face that comes through the word of a simplex is a listed face of its row, and the word before it has room.
-use Rattle.std.proofs.Common.{◌≡◌, ℕ, suc, ◌+◌, ◌-◌, ◌<◌, ◌≤◌, List, [], length, sym, ◌∙◌, ap, subst, arith}
+use Rattle.std.proofs.Common.{◌≡◌, ℕ, suc, ◌+◌, ◌-◌, ◌<◌, ◌≤◌, List, length, sym, ◌∙◌, ap, subst, arith}
 use Rattle.simp_ops.specs.Words.{IsWord, IsPassed, compose_words, face_word, through}
 use Rattle.simp_ops.proofs.PlacesOf.{word_below}
 use Rattle.simp_ops.proofs.OperatorLaws.{face_in, compose_in}

@@ -12,3 +12,4 @@ pub mod OwnFaults
 pub mod Prefix
 pub mod TableFaults
 pub mod Building
+pub mod RowsTold

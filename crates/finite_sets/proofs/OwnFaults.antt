@@ -1,17 +1,16 @@
 -- A row without a fault of its own: what its name, the number of its faces and its faces are.
-use Rattle.std.proofs.Common.{◌≡◌, ℕ, zero, suc, ◌+◌, ◌-◌, ◌<◌, ◌≤◌, ◌⊎◌, inl, inr, Bool, true, false, not, ◌||◌, ◌&&◌, ◌==◌, nat_lt, nat_le, List, [], length, map, Some, None, refl, sym, ◌∙◌, ap, subst, arith}
+use Rattle.std.proofs.Common.{◌≡◌, ℕ, zero, suc, ◌-◌, ◌<◌, ◌≤◌, ◌⊎◌, inl, inr, not, ◌&&◌, ◌==◌, nat_le, List, [], length, Some, None, refl, sym, ◌∙◌, ap, subst, arith}
 use Rattle.std.specs.Bool.{Decides}
 use Rattle.std.proofs.lemmas.List.{length-map}
 use Rattle.std.proofs.lemmas.Bool.{cases_lt}
 use Rattle.std.proofs.lemmas.Bool.Decides.{Decides-and, Decides-or, Decides-not, Decides-eqb, Decides-ltb}
 use Rattle.spaces.specs.Tables.{RowSimplex, entry, row_at, listed_face, row_face, InTable}
 use Rattle.spaces.specs.Allowed.{face_count}
-use Rattle.term_lang.specs.declared.texts.FaceText.{FaceText}
 use Rattle.term_lang.specs.declared.texts.RowText.{RowText}
 use Rattle.finite_sets.specs.declared.faults.TableFault.TheVariants.{BadDimension, DuplicateCell}
 use Rattle.finite_sets.specs.Meaning.{place_of, text_at, face_at, face_meant, row_meant, meaning_of}
 use Rattle.finite_sets.specs.Faults.{Fault, or_else, first_below, unless, is_before, is_count, face_fault, own_fault}
-use Rattle.finite_sets.proofs.FirstFault.{or_else-none, none_both, or_else-some, or_else-second, unless-none, none_unless, unless-false, first_below-none, none_below}
+use Rattle.finite_sets.proofs.FirstFault.{or_else-none, or_else-some, or_else-second, unless-none, none_unless, unless-false, first_below-none, none_below}
 use Rattle.finite_sets.proofs.Entries.{entry-map, entry-past}
 use Rattle.finite_sets.proofs.WordTests.{Decides-le}
 use Rattle.finite_sets.proofs.FaceFaults.{not_decided, face_faultless}

@@ -1,5 +1,5 @@
 -- The first rows of a table: faces of simplices on them are the same.
-use Rattle.std.proofs.Common.{◌≡◌, ℕ, suc, ◌+◌, ◌-◌, ◌<◌, ◌≤◌, Bool, not, ◌||◌, cond, nat_lt, nat_le, List, [], length, take, Some, None, sym, ◌∙◌, ap, subst, arith}
+use Rattle.std.proofs.Common.{◌≡◌, ℕ, suc, ◌+◌, ◌-◌, ◌<◌, ◌≤◌, not, ◌||◌, cond, nat_lt, nat_le, [], length, take, None, ◌∙◌, ap, arith}
 use Rattle.std.proofs.lemmas.List.{length-take-le}
 use Rattle.simp_ops.specs.Words.{Passed, absorbed, through, face_word}
 use Rattle.spaces.specs.Tables.{Table, Row, RowSimplex, entry, row_at, listed_face, before_row, on_row, row_face, InTable}

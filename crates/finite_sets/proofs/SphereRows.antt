@@ -1,12 +1,12 @@
 -- The rows of the table of a sphere.
-use Rattle.std.proofs.Common.{◌≡◌, ℕ, zero, suc, ◌+◌, ◌-◌, ◌^◌, ◌<◌, ◌≤◌, Bool, true, ◌==◌, List, [], ◌∷◌, ◌++◌, length, map, refl, sym, ◌∙◌, ap, subst, arith}
+use Rattle.std.proofs.Common.{◌≡◌, ℕ, zero, suc, ◌+◌, ◌-◌, ◌^◌, ◌<◌, ◌≤◌, true, ◌==◌, List, [], ◌∷◌, ◌++◌, length, map, refl, sym, ◌∙◌, ap, subst, arith}
 use Rattle.std.proofs.lemmas.List.{length-map}
 use Rattle.std.proofs.lemmas.Nat.{pow_pos}
 use Rattle.std.proofs.lemmas.Nat.Bits.{bit_at_ones}
 use Rattle.simp_ops.specs.Bits.{bit, places, mask_word}
 use Rattle.simp_ops.proofs.PlacesOf.{places-true, places-zero, places_same}
 use Rattle.simp_ops.proofs.MaskWords.{places-more}
-use Rattle.spaces.specs.Tables.{Table, RowSimplex, entry, row_at, listed_face, copies, all_degeneracies, sphere_rows}
+use Rattle.spaces.specs.Tables.{Table, RowSimplex, entry, row_at, copies, all_degeneracies, sphere_rows}
 use Rattle.spaces.specs.Allowed.{IsTable}
 use Rattle.spaces.proofs.SphereTable.{sphere_faces}
 use Rattle.finite_sets.specs.Spheres.{unnamed, name_in, sphere_names}

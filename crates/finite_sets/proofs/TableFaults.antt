@@ -1,5 +1,5 @@
 -- The rows mean a table exactly where they have no fault.
-use Rattle.std.proofs.Common.{◌≡◌, ℕ, zero, suc, ◌+◌, ◌-◌, ◌<◌, ◌≤◌, ◌⊎◌, inl, inr, Bool, true, false, ◌||◌, ◌==◌, List, [], ◌∷◌, length, Some, None, refl, sym, ◌∙◌, ap, subst, arith, true≢false}
+use Rattle.std.proofs.Common.{◌≡◌, ℕ, zero, suc, ◌-◌, ◌<◌, ◌≤◌, ◌⊎◌, inl, inr, true, ◌||◌, List, [], ◌∷◌, length, Some, None, refl, sym, ◌∙◌, ap, subst, arith, true≢false}
 use Rattle.std.specs.List.{list_any}
 use Rattle.std.proofs.lemmas.Bool.{cases_lt}
 use Rattle.std.proofs.lemmas.List.{length-map}
@@ -9,7 +9,7 @@ use Rattle.spaces.specs.Allowed.{IsTable, face_count}
 use Rattle.term_lang.specs.declared.texts.RowText.{RowText}
 use Rattle.finite_sets.specs.declared.faults.TableFault.{TableFault}
 use Rattle.finite_sets.specs.Meaning.{place_of, text_at, face_at, face_meant, row_meant, meaning_of}
-use Rattle.finite_sets.specs.Faults.{is_vertex, first_below, face_fault, own_fault, law_fault, list_fault, row_fault, fault_of}
+use Rattle.finite_sets.specs.Faults.{is_vertex, first_below, own_fault, law_fault, list_fault, row_fault, fault_of}
 use Rattle.finite_sets.proofs.FirstFault.{or_else-none, none_both, or_else-some, or_else-second, first_below-none, none_below, first_below-found}
 use Rattle.finite_sets.proofs.ListFault.{list_faultless, no_list_fault}
 use Rattle.finite_sets.proofs.PlaceOf.{place-named, place-own}

@@ -1,7 +1,7 @@
 -- What holds of faces in one table holds in another with the same dimensions and faces; names do not count.
-use Rattle.std.proofs.Common.{◌≡◌, ℕ, zero, suc, ◌+◌, ◌<◌, ◌≤◌, List, [], ◌∷◌, length, map, refl, sym, ◌∙◌, ap, subst, arith}
+use Rattle.std.proofs.Common.{◌≡◌, ℕ, zero, suc, ◌+◌, ◌<◌, [], ◌∷◌, length, map, refl, sym, ◌∙◌, ap, subst, arith}
 use Rattle.simp_ops.specs.Words.{Passed, absorbed, through, face_word}
-use Rattle.spaces.specs.Tables.{Table, Row, RowSimplex, entry, row_at, before_row, on_row, row_face, InTable}
+use Rattle.spaces.specs.Tables.{Table, RowSimplex, entry, row_at, before_row, on_row, row_face, InTable}
 use Rattle.spaces.specs.Allowed.{HasFaces, face_count}
 use Rattle.finite_sets.specs.Spheres.{unnamed, name_in}
 

@@ -11,7 +11,6 @@ use Rattle.std.specs.Prelude.{ℕ, zero, suc, ◌-◌, Bool, true, not, ◌&&◌
 use Rattle.std.specs.List.{list_any}
 use Rattle.std.specs.Cmp.Lexicographic.{pointwise}
 use Rattle.spaces.specs.Tables.{Table, RowSimplex, row_at, row_face, row_degree}
-use Rattle.term_lang.specs.declared.texts.FaceText.{FaceText}
 use Rattle.term_lang.specs.declared.texts.RowText.{RowText}
 use Rattle.finite_sets.specs.declared.faults.TableFault.{TableFault}
 use Rattle.finite_sets.specs.declared.faults.TableFault.TheVariants.{NoVertex, BadDimension, UnknownCell, FaceLaw, TooManyCells, DuplicateCell}
@@ -68,11 +67,15 @@ face_fault rows r i =
     let face = face_at row i in
     or_else (unless (is_before rows r face.name) (UnknownCell r i)) (unless (is_in (meaning_of rows) (length row.faces - 2) (face_meant rows face)) (BadDimension r))
 
+-- the first fault of its faces
+abbrev pub faces_fault : List RowText → ℕ → Fault
+faces_fault rows r = first_below (length (text_at rows r).faces) (face_fault rows r)
+
 unfoldable pub own_fault : List RowText → ℕ → Fault
 own_fault rows r =
     let row = text_at rows r in
     or_else (unless (not (is_before rows r row.name)) (DuplicateCell r))
-    (or_else (unless (is_count (length row.faces)) (BadDimension r)) (first_below (length row.faces) (face_fault rows r)))
+    (or_else (unless (is_count (length row.faces)) (BadDimension r)) (faces_fault rows r))
 
 -- ---- the law between two faces
 

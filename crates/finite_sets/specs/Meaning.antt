@@ -5,7 +5,7 @@
 -- A row without faces is a vertex, and a row with n + 1 faces has dimension n. A face is a word of degeneracies before the row of its name.
 --
 --   (v), (e v v), (t e 0:v e) mean a vertex, an edge with both faces row 0, and a triangle with the faces row 1, s_0 of row 0, and row 1
-use Rattle.std.specs.Prelude.{ℕ, zero, suc, ◌-◌, cond, List, [], ◌∷◌, length, map, nat_eq}
+use Rattle.std.specs.Prelude.{ℕ, suc, ◌-◌, cond, List, [], ◌∷◌, length, map, nat_eq}
 use Rattle.std.specs.Cmp.Lexicographic.{pointwise}
 use Rattle.spaces.specs.Tables.{Table, Row as TableRow, RowSimplex, entry}
 use Rattle.term_lang.specs.declared.texts.FaceText.{FaceText}

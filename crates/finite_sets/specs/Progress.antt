@@ -2,7 +2,7 @@
 -- (the simplices of a finite simplicial set are given one after another, each by earlier ones: Kenzo documentation, 1999).
 --
 --   after (v), (e v v) of three rows: the map has v at 0 and e at 1
-use Rattle.std.specs.Prelude.{◌≡◌, ℕ, suc, ◌+◌, ◌<◌, ◌≤◌, cond, List, [], length, Option, Some, None, take}
+use Rattle.std.specs.Prelude.{◌≡◌, ℕ, suc, ◌<◌, ◌≤◌, cond, List, [], length, Option, Some, None, take}
 use Rattle.std.specs.Ordering.{nat_cmp}
 use Rattle.std.specs.Cmp.Lexicographic.{slice_cmp}
 use Rattle.std.specs.BTreeMap.{BTreeMap, get}

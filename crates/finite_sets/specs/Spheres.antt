@@ -5,7 +5,7 @@
 --   the table of the sphere of dimension 2: a row `*` of dimension 0, and a row `S2` of dimension 2 with the faces s_0 *, s_0 *, s_0 *
 use Rattle.std.specs.Prelude.{◌≡◌, ◌++◌, ◌-◌, ℕ, suc, List, [], ◌∷◌, map, codes}
 use Rattle.std.specs.Fmt.{decimal}
-use Rattle.spaces.specs.Tables.{Table, Row as TableRow, RowSimplex, copies, all_degeneracies, sphere_rows}
+use Rattle.spaces.specs.Tables.{Row as TableRow, RowSimplex, copies, all_degeneracies, sphere_rows}
 use Rattle.term_lang.specs.Rows.{rows_of}
 use Rattle.term_lang.specs.declared.tables.Row.{Row}
 

@@ -44,7 +44,8 @@ pub fn read_face(
     requires some { 2 ≤ length (text_at texts.now r).faces }
     requires most { length (text_at texts.now r).faces ≤ 17 }
     ensures none { IfOk result (λ _. face_fault texts.now r i ≡ None) }
-    ensures ok { IfOk result (λ face. face_of face ≡ face_meant texts.now (face_at (text_at texts.now r) i)) }
+    ensures ok { IfOk result
+        (λ face. face_of face ≡ face_meant texts.now (face_at (text_at texts.now r) i)) }
     ensures err { IfErr result (λ fault. face_fault texts.now r i ≡ Some fault) }
 {
     let row = texts.get(r).unwrap();

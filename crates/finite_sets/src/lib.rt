@@ -1,4 +1,4 @@
-//! Finite simplicial sets: tables of the code are built from rows as they are written, and from spheres.
+//! Finite simplicial sets: tables are built from rows as they are written, and of spheres.
 #![tactic(auto)]
 
 mod bases;
@@ -13,4 +13,4 @@ mod tests;
 pub use bases::{BaseFault, bundle_base};
 pub use faults::TableFault;
 pub use spheres::sphere_table;
-pub use tables::{build_table, table_faults};
+pub use tables::{build_table, rows_told, table_faults};

@@ -1,10 +1,12 @@
 // A table from rows as they are written.
-ghost use Rattle.std.specs.Prelude.{◌≡◌, ◌≢◌, ◌↔◌, ◌<◌, ◌≤◌, List, length, map, Some, None, IfOk, IfErr, OnOk};
+ghost use Rattle.std.specs.Prelude.{◌≡◌, ◌≢◌, ◌↔◌, ◌<◌, ◌≤◌, List, length, map};
+ghost use Rattle.std.specs.Prelude.{Some, None, IfOk, IfErr, OnOk};
 ghost use Rattle.spaces.specs.Allowed.{IsTable};
+ghost use Rattle.term_lang.specs.declared.tables.Row.{Row};
 ghost use Rattle.term_lang.specs.declared.texts.RowText.{RowText};
 ghost use Rattle.term_lang.specs.Rows.{rows_of, row_of, face_of};
 ghost use Rattle.finite_sets.specs.Meaning.{text_at, face_meant, row_meant, meaning_of};
-ghost use Rattle.finite_sets.specs.Faults.{first_below, face_fault, own_fault, fault_of};
+ghost use Rattle.finite_sets.specs.Faults.{faces_fault, own_fault, fault_of};
 ghost use Rattle.finite_sets.specs.Progress.{IsBuilt};
 
 use crate::faces::read_face;
@@ -26,10 +28,11 @@ fn read_faces(
     requires row { r < length texts.now }
     requires some { length (text_at texts.now r).faces ≢ 1 }
     requires most { length (text_at texts.now r).faces ≤ 17 }
-    ensures none { OnOk result (first_below (length (text_at texts.now r).faces) (face_fault texts.now r) ≡ None) }
-    ensures ok { IfOk result (λ faces. map face_of faces ≡ map (face_meant texts.now) (text_at texts.now r).faces) }
-    ensures err { IfErr result (λ fault.
-        fault ≢ TableFault.Memory → first_below (length (text_at texts.now r).faces) (face_fault texts.now r) ≡ Some fault) }
+    ensures none { OnOk result (faces_fault texts.now r ≡ None) }
+    ensures ok { IfOk result
+        (λ faces. map face_of faces ≡ map (face_meant texts.now) (text_at texts.now r).faces) }
+    ensures err { IfErr result
+        (λ fault. fault ≢ TableFault.Memory → faces_fault texts.now r ≡ Some fault) }
 {
     let mut faces = new_seq(alloc);
     for i in 0..texts.get(r).unwrap().faces.len() {
@@ -50,7 +53,8 @@ fn read_row(
     requires row { r < length texts.now }
     ensures none { OnOk result (own_fault texts.now r ≡ None) }
     ensures ok { IfOk result (λ row. row_of row ≡ row_meant texts.now (text_at texts.now r)) }
-    ensures err { IfErr result (λ fault. fault ≢ TableFault.Memory → own_fault texts.now r ≡ Some fault) }
+    ensures err { IfErr result
+        (λ fault. fault ≢ TableFault.Memory → own_fault texts.now r ≡ Some fault) }
 {
     let text = texts.get(r).unwrap();
     if places.contains_key(&text.name) {
@@ -67,14 +71,15 @@ fn read_row(
     })
 }
 
-/// The table of rows as they are written, or their first fault: first too many rows, then none that is
-/// a vertex, and then row by row a name that an earlier row has, a number of faces that no dimension
-/// has, face by face a name that no earlier row has or a face of a wrong degree, and two faces without
-/// the law (Kenzo documentation, 1999, on finite simplicial sets).
+/// The table that the rows mean, where they have no fault, and their first fault else: too many rows or
+/// no vertex, and then row by row a name that an earlier row has, a number of faces that is neither 0
+/// nor from 2 to 17, face by face a name that no earlier row has or a word of a wrong degree, and the
+/// law between two faces. Memory is want of memory (Kenzo documentation, 1999, on finite simplicial sets).
 pub fn build_table(alloc: Global, rows: &RowTextList) -> Result<Table, TableFault>
     ensures table { IfOk result (λ table. rows_of table ≡ meaning_of rows.now) }
     ensures none { OnOk result (fault_of rows.now ≡ None) }
-    ensures first { IfErr result (λ fault. fault ≢ TableFault.Memory → fault_of rows.now ≡ Some fault) }
+    ensures first { IfErr result
+        (λ fault. fault ≢ TableFault.Memory → fault_of rows.now ≡ Some fault) }
 {
     if let Some(fault) = list_fault(rows) {
         return Err(fault);
@@ -96,4 +101,9 @@ pub fn build_table(alloc: Global, rows: &RowTextList) -> Result<Table, TableFaul
 /// Rows mean a table exactly where they have no fault. It does nothing; its clause is the law.
 pub fn table_faults()
     ensures { (rows : List RowText) → IsTable (meaning_of rows) ↔ (fault_of rows ≡ None) }
+{}
+
+/// Two lists of rows that mean the same are the same. It does nothing; its clause is the law.
+pub fn rows_told()
+    ensures { (s t : List Row) → rows_of s ≡ rows_of t → s ≡ t }
 {}

@@ -1,7 +1,7 @@
 use crate::bases::{BaseFault, bundle_base};
 use crate::faults::TableFault;
 use crate::spheres::sphere_table;
-use crate::tables::{build_table, table_faults};
+use crate::tables::{build_table, rows_told, table_faults};
 use seqs::{Seq, new_seq};
 use simp_ops::Degens;
 use std::alloc::{AllocError, Global};
@@ -106,6 +106,7 @@ fn faults_of_rows(rt: HostRuntime) {
 fn projective_plane(rt: HostRuntime) -> Result<(), Fail> {
     let table = built(&rt, rt.alloc(), "v;e v v;t e 0:v e")?;
     table_faults();
+    rows_told();
     assert_eq!(rt; table.rows().len(), 3);
     let triangle = table.rows().get(2).expect(&rt, "the triangle");
     assert_eq!(rt; triangle.dim, 2);

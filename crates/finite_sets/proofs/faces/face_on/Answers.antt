@@ -1,6 +1,6 @@
-use Rattle.std.proofs.Common.{◌≡◌, ◌<◌, List, [], length, sym, ◌∙◌, ap, subst}
+use Rattle.std.proofs.Common.{◌≡◌, ◌<◌, [], length, sym, ◌∙◌, ap, subst}
 use Rattle.std.proofs.lemmas.List.{length-map}
-use Rattle.simp_ops.specs.Words.{IsWord, compose_words, face_word, through}
+use Rattle.simp_ops.specs.Words.{IsWord, compose_words}
 use Rattle.simp_ops.specs.Bits.{mask_word}
 use Rattle.simp_ops.specs.Past.{passed}
 use Rattle.spaces.specs.Tables.{Row as TableRow, RowSimplex, entry, row_at, listed_face, on_row, before_row}

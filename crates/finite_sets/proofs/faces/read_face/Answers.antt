@@ -1,11 +1,10 @@
-use Rattle.std.proofs.Common.{◌≡◌, ◌+◌, ◌-◌, ◌<◌, ◌≤◌, List, [], length, is_some, true, false, Some, None, refl, sym, ◌∙◌, ap, subst, arith, true≢false}
+use Rattle.std.proofs.Common.{◌≡◌, ◌+◌, ◌-◌, ◌<◌, [], length, sym, ◌∙◌, ap, subst, arith, true≢false}
 use Rattle.std.specs.Option.{option_copied}
-use Rattle.simp_ops.specs.Words.{IsWord}
 use Rattle.std.proofs.lemmas.List.{length-map}
-use Rattle.spaces.specs.Tables.{Row as TableRow, row_at, InTable}
+use Rattle.spaces.specs.Tables.{Row as TableRow, row_at}
 use Rattle.term_lang.specs.declared.texts.FaceText.{FaceText}
 use Rattle.term_lang.specs.declared.texts.RowText.{RowText}
-use Rattle.finite_sets.specs.Meaning.{place_of, text_at, face_at, face_meant, row_meant, meaning_of}
+use Rattle.finite_sets.specs.Meaning.{place_of, text_at, face_at, row_meant, meaning_of}
 use Rattle.finite_sets.specs.Faults.{is_word}
 use Rattle.finite_sets.specs.Progress.{place_in}
 use Rattle.finite_sets.proofs.Entries.{got, entry-get}

@@ -1,4 +1,4 @@
-use Rattle.std.proofs.Common.{◌≡◌, Some, sym, ◌∙◌, ap, arith}
+use Rattle.std.proofs.Common.{Some, sym, ◌∙◌, ap, arith}
 use Rattle.finite_sets.specs.declared.faults.TableFault.TheVariants.{TooManyCells}
 use Rattle.finite_sets.proofs.ListFault.{too_many, no_vertex, no_list_fault}
 use Rattle.finite_sets.proofs.faults.list_fault.Goals as goal

@@ -1,7 +1,7 @@
-use Rattle.std.proofs.Common.{◌≡◌, ◌-◌, [], length, sym, ◌∙◌, ap, subst, arith}
+use Rattle.std.proofs.Common.{◌-◌, sym, ◌∙◌, ap, subst, arith}
 use Rattle.std.proofs.lemmas.List.{length-map}
 use Rattle.spaces.specs.Tables.{row_face, listed_face}
-use Rattle.term_lang.specs.Rows.{rows_of, row_of, face_of}
+use Rattle.term_lang.specs.Rows.{rows_of, row_of}
 use Rattle.finite_sets.specs.Progress.{HasFace}
 use Rattle.finite_sets.proofs.RowLaws.{listed_has, law_meant, same_face}
 use Rattle.finite_sets.proofs.laws.is_law.Goals as goal

@@ -1,4 +1,4 @@
-use Rattle.std.proofs.Common.{◌≡◌, suc, sym, ◌∙◌, arith}
+use Rattle.std.proofs.Common.{sym, ◌∙◌, arith}
 use Rattle.term_lang.specs.Rows.{rows_of}
 use Rattle.finite_sets.proofs.RowLaws.{none_until, found_at, none_at}
 use Rattle.finite_sets.proofs.laws.law_fault_at.Goals as goal

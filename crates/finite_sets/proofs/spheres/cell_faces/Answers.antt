@@ -1,4 +1,4 @@
-use Rattle.std.proofs.Common.{◌≡◌, ◌-◌, ◌+◌, ◌^◌, ◌*◌, ◌%◌, suc, List, [], ◌∷◌, ◌++◌, map, ◌∙◌, ap, arith}
+use Rattle.std.proofs.Common.{◌≡◌, ◌-◌, ◌+◌, ◌^◌, ◌*◌, ◌%◌, suc, [], ◌∷◌, ◌++◌, map, ◌∙◌, ap, arith}
 use Rattle.std.proofs.lemmas.List.{map_push}
 use Rattle.std.proofs.lemmas.Nat.{one_shl}
 use Rattle.simp_ops.specs.Bits.{mask_word}

@@ -1,4 +1,4 @@
-use Rattle.std.proofs.Common.{◌≡◌, ◌+◌, ◌-◌, ◌<◌, ◌≤◌, ◌≢◌, suc, List, [], length, Some, None, sym, ◌∙◌, ap, arith}
+use Rattle.std.proofs.Common.{sym, ◌∙◌, ap, arith}
 use Rattle.std.proofs.lemmas.Result.{err_from_is_err_and}
 use Rattle.term_lang.specs.Rows.{rows_of}
 use Rattle.finite_sets.proofs.TableFaults.{list_first, own_first, law_first}

@@ -1,10 +1,10 @@
-use Rattle.std.proofs.Common.{◌≡◌, ◌+◌, ◌-◌, ◌<◌, ◌≤◌, ◌≢◌, suc, List, [], ◌∷◌, ◌++◌, length, map, take, Some, None, sym, ◌∙◌, ap, arith}
+use Rattle.std.proofs.Common.{◌≡◌, ◌+◌, suc, [], ◌∷◌, ◌++◌, length, map, sym, ◌∙◌, ap, arith}
 use Rattle.std.proofs.lemmas.List.{map_push, map_more, take_all}
 use Rattle.std.proofs.lemmas.Result.{err_from_is_err_and}
 use Rattle.term_lang.specs.declared.texts.FaceText.{FaceText}
 use Rattle.term_lang.specs.declared.texts.RowText.{RowText}
 use Rattle.term_lang.specs.Rows.{face_of}
-use Rattle.finite_sets.specs.Meaning.{text_at, face_at, face_meant}
+use Rattle.finite_sets.specs.Meaning.{text_at, face_meant}
 use Rattle.finite_sets.specs.Faults.{first_below, face_fault}
 use Rattle.finite_sets.proofs.Entries.{got, entry-get, entry-get_or}
 use Rattle.finite_sets.proofs.FirstFault.{first_below-found, none_more}
