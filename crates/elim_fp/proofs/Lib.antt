@@ -1,0 +1,5 @@
+pub mod Dense
+pub mod Left
+pub mod Inserting
+pub mod Reducing
+pub mod Solved
