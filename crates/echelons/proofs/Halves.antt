@@ -55,7 +55,7 @@ module _ (p : ℕ) where
   lead-drop (suc h) (zero ∷ r) l = omega (arith, lead-drop h r (omega arith))
   lead-drop (suc h) (suc a ∷ r) l = absurd (omega arith)
 
-  combined-behind : (h w : ℕ) (cs : List ℕ) (back : List Vector) → Wide (h + w) back → Each (λ r. h ≤ lead r) back → combined p (h + w) cs back ≡ zeros h ++ combined p w cs (map (drop h) back)
+  pub combined-behind : (h w : ℕ) (cs : List ℕ) (back : List Vector) → Wide (h + w) back → Each (λ r. h ≤ lead r) back → combined p (h + w) cs back ≡ zeros h ++ combined p w cs (map (drop h) back)
   combined-behind h w [] back g l = zeros-append h w
   combined-behind h w (c ∷ cs) [] g l = zeros-append h w
   combined-behind h w (c ∷ cs) (r ∷ back) g l =

@@ -49,7 +49,7 @@ module _ (p w : ℕ) (pos : 0 < p) where
       ∙ with-minus (at_place r (lead y)) (below-at p pos w r h (lead y)))
 
   -- what was taken away goes back
-  cleared-back : (y r : Vector) → IsVector p w y → IsVector p w r → vector_plus p (cleared p y r) (multiple p (at_place r (lead y)) y) ≡ r
+  pub cleared-back : (y r : Vector) → IsVector p w y → IsVector p w r → vector_plus p (cleared p y r) (multiple p (at_place r (lead y)) y) ≡ r
   cleared-back y r g h =
       let c = cleared-vector y r g h in
       let m = length-multiple p w (at_place r (lead y)) y g.wide in

@@ -26,7 +26,7 @@ use Rattle.fp_field.proofs.Mod.{same-plus, same-times}
 use Rattle.echelons.specs.Echelon.{Vector, IsVector, at_place, vector_plus, multiple, lead}
 use Rattle.elim_fp.specs.Rows.{entries_from, dense}
 
-same_from_equal : (x y : ℕ) → nat_cmp x y ≡ Equal → x ≡ y
+pub same_from_equal : (x y : ℕ) → nat_cmp x y ≡ Equal → x ≡ y
 same_from_equal x y e = ranked x y Equal (sym e)
 
 abbrev pub at : Terms ℕ → ℕ → ℕ

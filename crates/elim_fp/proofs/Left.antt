@@ -16,7 +16,7 @@ use Rattle.elim_fp.specs.Rows.{DenseRow, vectors_of}
 use Rattle.echelons.proofs.Rows.{Stairs, Stairs-from, remainder-vector, remainder-place}
 
 module _ (p w : ℕ) (pos : 0 < p) where
-  minus-same : (a : ℕ) → a < p → SameMod p (minus p a) ((p - 1) * a)
+  pub minus-same : (a : ℕ) → a < p → SameMod p (minus p a) ((p - 1) * a)
   minus-same a l = mod-mod (p - a) p ∙ same-by p (p - a) ((p - 1) * a) a 1 (omega (arith, pred-times p a pos))
 
   pub remainder-cons : (r : Vector) (rows : List Vector) (v : Vector) → Stairs p w (r ∷ rows) → IsVector p w v

@@ -1,5 +1,11 @@
 pub mod Dense
 pub mod Left
-pub mod Inserting
-pub mod Reducing
 pub mod Solved
+pub mod Unmatched
+pub mod Entries
+pub mod Behind
+pub mod Related
+pub mod Turning
+pub mod TableRows
+pub mod TableSums
+pub mod Tails

@@ -1,3 +1,4 @@
 pub mod Rows
-pub mod Insertion
 pub mod Solving
+pub mod Matching
+pub mod Tables

@@ -2,13 +2,13 @@
 -- place of its width; that the program keeps only the numbers that are not 0 is not seen.
 --
 --   over 3 the terms (0, 1) and (2, 2) are at width 4 the row (1,0,2,0)
-use Rattle.std.specs.Prelude.{◌≡◌, ℕ, zero, suc, ◌%◌, List, [], ◌∷◌, map}
+use Rattle.std.specs.Prelude.{◌≡◌, ℕ, zero, suc, ◌%◌, List, [], ◌∷◌, map, drop, cond, nat_lt}
 use Rattle.std.specs.Ordering.{nat_cmp, eq_by_cmp}
 use Rattle.fp_field.specs.declared.prime.Prime.{Prime}
 use Rattle.fp_field.specs.declared.element.Fp.{Fp}
 use Rattle.fp_field.specs.Field.{number}
 use Rattle.fp_field.specs.Chains.{Terms, coeff}
-use Rattle.echelons.specs.Echelon.{Vector, IsVector}
+use Rattle.echelons.specs.Echelon.{Vector, IsVector, zeros, lead}
 
 -- a row
 pub record DenseRow : Type 0 where
@@ -42,3 +42,14 @@ pub record IsRow (p : Prime) (w : ℕ) (r : DenseRow) : Type 0 where
 -- the vectors of rows
 abbrev pub vectors_of : List DenseRow → List Vector
 vectors_of rows = map (λ r. r.values) rows
+
+-- the vector of a width with 1 at a place and 0 at the others
+abbrev pub unit : ℕ → ℕ → Vector
+unit i zero = []
+unit zero (suc w) = 1 ∷ zeros w
+unit (suc i) (suc w) = 0 ∷ unit i w
+
+-- the parts from place h on of the vectors that are 0 before it
+abbrev pub tails : ℕ → List Vector → List Vector
+tails h [] = []
+tails h (r ∷ rows) = cond (nat_lt (lead r) h) (tails h rows) (drop h r ∷ tails h rows)

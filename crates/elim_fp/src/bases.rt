@@ -1,7 +1,7 @@
 // The basis of a matrix, and coordinates over a basis.
 ghost use Rattle.std.specs.Prelude.{◌≡◌, IfOk, IfErr, length};
 ghost use Rattle.fp_field.specs.Field.{number};
-ghost use Rattle.echelons.specs.Echelon.{coordinates, in_span, reduced_basis, IsReducedEchelon};
+ghost use Rattle.echelons.specs.Echelon.{coordinates, remainder as what_is_left, in_span, reduced_basis, IsReducedEchelon};
 ghost use Rattle.elim_fp.specs.Rows.{vectors_of};
 ghost use Rattle.elim_fp.specs.Solving.{IsSolution, IsFault};
 
@@ -52,6 +52,29 @@ pub fn solve(alloc: Global, e: &Echelon, v: &FpRow) -> Result<FpRow, SolveFault>
         Ok(row) => Ok(row),
         Err(_) => Err(SolveFault::Memory),
     }
+}
+
+/// What is left of a row after the combination of the basis that has its entries at the leading places.
+pub fn remainder(e: &Echelon, v: &FpRow) -> Result<FpRow, AllocError>
+    requires prime { v.now.prime ≡ e.now.prime }
+    requires width { length v.now.values ≡ e.now.width }
+    ensures prime { IfOk result (λ r. r.prime ≡ e.now.prime) }
+    ensures values { IfOk result (λ r. r.values ≡ what_is_left (number e.now.prime) e.now.width e.now.rows v.now.values) }
+{
+    let _ = v.width();
+    let rest = left_of(e.rows().as_slice(), v)?;
+    Ok(rest)
+}
+
+/// The entries of a row at the leading places of the basis.
+pub fn leading_entries(alloc: Global, e: &Echelon, v: &FpRow) -> Result<FpRow, AllocError>
+    requires prime { v.now.prime ≡ e.now.prime }
+    requires width { length v.now.values ≡ e.now.width }
+    ensures prime { IfOk result (λ r. r.prime ≡ e.now.prime) }
+    ensures values { IfOk result (λ r. r.values ≡ coordinates e.now.rows v.now.values) }
+{
+    let entries = entries_at_leads(alloc, e.rows().as_slice(), v)?;
+    Ok(entries)
 }
 
 /// The entries of a row at the leading places of basis rows.

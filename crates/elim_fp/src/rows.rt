@@ -1,9 +1,12 @@
 // Rows over a field F_p, of which only the entries that are not 0 are kept.
-ghost use Rattle.std.specs.Prelude.{◌≡◌, ◌<◌, [], ◌∷◌, ◌++◌, length, slice_get, All, IfOk, OnOk, OnErr};
+ghost use Rattle.std.specs.Prelude.{◌≡◌, ◌<◌, [], ◌∷◌, ◌++◌, length, slice_get, slice_set, All, IfOk, OnOk, OnErr};
 ghost use Rattle.std.specs.Option.{option_copied};
-ghost use Rattle.fp_field.specs.Field.{number, minus};
-ghost use Rattle.echelons.specs.Echelon.{IsVector, at_place, lead, vector_plus, multiple};
-ghost use Rattle.elim_fp.specs.Rows.{numbers_of, IsRow};
+ghost use Rattle.std.specs.Ordering.{nat_cmp};
+ghost use Rattle.fp_field.specs.Field.{number, plus, minus};
+ghost use Rattle.fp_field.specs.Normal.{IsNormal};
+ghost use Rattle.chain_core.specs.Formal.{numbers};
+ghost use Rattle.echelons.specs.Echelon.{IsVector, at_place, zeros, lead, vector_plus, multiple};
+ghost use Rattle.elim_fp.specs.Rows.{numbers_of, dense, IsRow};
 
 use chain_core::Chain;
 use fp_field::{Fp, Prime, neg};
@@ -27,6 +30,17 @@ impl Model for FpRow {
 }
 
 impl FpRow {
+    /// The zero row of a width.
+    pub fn zero(alloc: Global, p: Prime, width: usize) -> FpRow
+        ensures prime { result.prime ≡ p }
+        ensures values { result.values ≡ zeros width }
+    {
+        FpRow {
+            width,
+            entries: Chain::new(alloc, p),
+        }
+    }
+
     /// The prime of the field.
     pub fn prime(&self) -> Prime
         ensures { result ≡ self.now.prime }
@@ -49,6 +63,27 @@ impl FpRow {
         ensures element { result.value < number self.now.prime }
     {
         self.entries.coeff(&place)
+    }
+
+    /// The entries that are kept, each a place and the value there. A place past the width counts for nothing.
+    pub fn terms(&self) -> &[(usize, Fp)]
+        ensures values { self.now.values ≡ dense (number self.now.prime) (length self.now.values) (numbers result.now) }
+        ensures normal { IsNormal nat_cmp (number self.now.prime) (numbers result.now) }
+        ensures elements { All (λ t. t.1.value < number self.now.prime) result.now }
+    {
+        self.entries.terms()
+    }
+
+    /// Adds c to the value at a place below the width.
+    pub fn add_entry(&mut self, place: usize, c: Fp) -> Result<(), AllocError>
+        requires place { place < length self.old.values }
+        requires element { c.value < number self.old.prime }
+        ensures entry { OnOk result (self.new.values ≡ slice_set self.old.values place (plus (number self.old.prime) (at_place self.old.values place) c.value)) }
+        ensures prime { self.new.prime ≡ self.old.prime }
+        ensures width { length self.new.values ≡ length self.old.values }
+        ensures err { OnErr result (self.new ≡ self.old) }
+    {
+        self.entries.add_term(place, c)
     }
 
     /// The place of the first entry that is not 0, and of a zero row its width.

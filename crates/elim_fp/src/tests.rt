@@ -1,7 +1,8 @@
 // Worked values over F_3.
-ghost use Rattle.std.specs.Prelude.{◌≡◌, ◌<◌, All, IfOk};
+ghost use Rattle.std.specs.Prelude.{◌≡◌, ◌<◌, [], ◌∷◌, true, All, IfOk};
 ghost use Rattle.fp_field.specs.declared.prime.Prime.TheVariants.{Three};
-ghost use Rattle.elim_fp.specs.Rows.{IsRow};
+ghost use Rattle.echelons.specs.Echelon.{Vector, IsVector, in_span};
+ghost use Rattle.elim_fp.specs.Rows.{vectors_of, IsRow};
 
 use super::*;
 use fp_field::{Fp, Prime};
@@ -13,6 +14,7 @@ fn pair(alloc: Global, a: u8, b: u8) -> Result<FpRow, AllocError>
     requires a_in { a < 3 }
     requires b_in { b < 3 }
     ensures row { IfOk result (λ r. IsRow Three 2 r) }
+    ensures values { IfOk result (λ r. r.values ≡ a ∷ b ∷ []) }
 {
     row_of(alloc, Prime::Three, &[Fp { value: a }, Fp { value: b }])
 }
@@ -22,6 +24,7 @@ fn both(alloc: Global, first: FpRow, second: FpRow) -> Result<FpRowList, AllocEr
     requires first { IsRow Three 2 first }
     requires second { IsRow Three 2 second }
     ensures rows { IfOk result (λ l. All (IsRow Three 2) l) }
+    ensures list { IfOk result (λ l. l ≡ first ∷ second ∷ []) }
 {
     let mut rows = FpRowList::new(alloc);
     rows.push(first)?;
@@ -36,6 +39,17 @@ fn line(alloc: Global) -> Result<Echelon, AllocError>
 {
     let rows = both(alloc, pair(alloc, 2, 1)?, pair(alloc, 1, 2)?)?;
     echelon(alloc, &matrix_of(Prime::Three, 2, rows))
+}
+
+/// The whole plane.
+fn plane(alloc: Global) -> Result<Echelon, AllocError>
+    ensures prime { IfOk result (λ e. e.prime ≡ Three) }
+    ensures width { IfOk result (λ e. e.width ≡ 2) }
+    ensures every { IfOk result (λ e. (v : Vector) → IsVector 3 2 v → in_span 3 2 e.rows v ≡ true) }
+{
+    let rows = both(alloc, pair(alloc, 1, 0)?, pair(alloc, 0, 1)?)?;
+    let plane = echelon(alloc, &matrix_of(Prime::Three, 2, rows))?;
+    Ok(plane)
 }
 
 /// The value of a row at a place.
@@ -68,6 +82,38 @@ fn coefficients_over_the_line(rt: HostRuntime) -> Result<(), Fail> {
     }
     let outside = solve(rt.alloc(), &line, &pair(rt.alloc(), 0, 1)?);
     assert!(rt; matches!(&outside, Err(SolveFault::NotIn(1))));
+    Ok(())
+}
+
+#[test]
+fn complement_of_the_line(rt: HostRuntime) -> Result<(), Fail> {
+    let plane = plane(rt.alloc())?;
+    let line = line(rt.alloc())?;
+    let rest = complement(rt.alloc(), &plane, &line)?;
+    assert_eq!(rt; rest.rows().len(), 1);
+    assert_eq!(rt; value_at(rest.rows().get(0), 0), Some(0));
+    assert_eq!(rt; value_at(rest.rows().get(0), 1), Some(1));
+    Ok(())
+}
+
+#[test]
+fn kernel_of_a_row(rt: HostRuntime) -> Result<(), Fail> {
+    let mut rows = FpRowList::new(rt.alloc());
+    rows.push(pair(rt.alloc(), 1, 1)?)?;
+    let kernel = kernel(rt.alloc(), &matrix_of(Prime::Three, 2, rows))?;
+    assert_eq!(rt; kernel.rows().len(), 1);
+    assert_eq!(rt; value_at(kernel.rows().get(0), 0), Some(1));
+    assert_eq!(rt; value_at(kernel.rows().get(0), 1), Some(2));
+    Ok(())
+}
+
+#[test]
+fn relations_of_two_rows(rt: HostRuntime) -> Result<(), Fail> {
+    let rows = both(rt.alloc(), pair(rt.alloc(), 2, 1)?, pair(rt.alloc(), 1, 2)?)?;
+    let relations = relations(rt.alloc(), &matrix_of(Prime::Three, 2, rows))?;
+    assert_eq!(rt; relations.rows().len(), 1);
+    assert_eq!(rt; value_at(relations.rows().get(0), 0), Some(1));
+    assert_eq!(rt; value_at(relations.rows().get(0), 1), Some(1));
     Ok(())
 }
 

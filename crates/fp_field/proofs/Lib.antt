@@ -6,3 +6,6 @@ pub mod Sums
 pub mod Weights
 pub mod Support
 pub mod Normals
+pub mod Fair
+pub mod SeriesLaws
+pub mod FlowLaws

@@ -4,8 +4,10 @@ use Rattle.std.proofs.lemmas.List.{take-append-drop}
 use Rattle.std.proofs.lemmas.Bool.{le-leb, lt-leb}
 use Rattle.std.specs.Io.KnownBytes.{append_known}
 use Rattle.port_io.specs.Ports.{PortState}
+use Rattle.session_core.specs.Answer.{State}
+use Rattle.session_core.specs.Lines.{first_state}
 use Rattle.kernel_run.specs.Counts.{sum_whole, one_reply, one_error}
-use Rattle.kernel_run.specs.Fresh.{fresh, text_to, texts_of, texts_to, joined, too_long, is_long, last_text, answered_part}
+use Rattle.kernel_run.specs.Fresh.{fresh, state_after, text_to, texts_from, texts_to, joined, too_long, is_long, last_text, answered_part}
 use Rattle.kernel_run.specs.Lines.{cut}
 use Rattle.kernel_run.specs.Outcome.{Outcome, IsComplete}
 use Rattle.kernel_run.specs.Session.{ReadsNothing, WritesOn}
@@ -20,9 +22,9 @@ abbrev pub sum_texts : (List ℕ → ℕ) → List (List ℕ) → ℕ
 sum_texts f [] = 0
 sum_texts f (t ∷ ts) = f t + sum_texts f ts
 
-pub record SoFar (before after : PortState) (script : List ℕ) (long : Bool) (rest : List ℕ) (report : SessionReport) : Type 0 where
+pub record SoFar (before after : PortState) (script : List ℕ) (long : Bool) (s : State) (rest : List ℕ) (report : SessionReport) : Type 0 where
   pub done : List (List ℕ)
-  pub texts : texts_to script ≡ done ++ texts_of (cut long rest)
+  pub texts : texts_to script ≡ done ++ texts_from s (cut long rest)
   pub wrote : WritesOn before after (joined done)
   pub reads : ReadsNothing before after
   pub replies : report.replies ≡ sum_texts one_reply done
@@ -121,33 +123,33 @@ one_most t = grind arith
 pub one_error_most : (t : List ℕ) → one_error t ≤ 1
 one_error_most t = grind arith
 
-pub next_text : (texts done lines rest : List (List ℕ)) (line : List ℕ) → texts ≡ done ++ texts_of lines → lines ≡ line ∷ rest → texts ≡ done ++ text_to line ∷ texts_of rest
-next_text texts done lines rest line is e = is ∙ ap (λ ls. done ++ texts_of ls) e
+pub next_text : (s : State) (texts done lines rest : List (List ℕ)) (line : List ℕ) → texts ≡ done ++ texts_from s lines → lines ≡ line ∷ rest → texts ≡ done ++ text_to s line ∷ texts_from (state_after s line) rest
+next_text s texts done lines rest line is e = is ∙ ap (λ ls. done ++ texts_from s ls) e
 
-pub goes_on : (a b c : PortState) (script rest line after : List ℕ) (long : Bool) (old new : SessionReport) → SoFar a b script long rest old → cut long rest ≡ line ∷ cut long after → length after < length rest → Answered b c (text_to line) old new → new.end ≡ Finished → SoFar a c script long after new
-goes_on a b c script rest line after long old new sofar is less answered end =
-    let writes : WritesOn b c (text_to line) = subst (λ e. WritesBy e b c (text_to line)) end answered.writes in
-    let counts : CountsBy Finished (text_to line) old new = subst (λ e. CountsBy e (text_to line) old new) end answered.counts in
+pub goes_on : (a b c : PortState) (script : List ℕ) (s t : State) (rest line after : List ℕ) (long : Bool) (old new : SessionReport) → SoFar a b script long s rest old → cut long rest ≡ line ∷ cut long after → length after < length rest → Answered b c (text_to s line) old new → new.end ≡ Finished → t ≡ state_after s line → SoFar a c script long t after new
+goes_on a b c script s t rest line after long old new sofar is less answered end next =
+    let writes : WritesOn b c (text_to s line) = subst (λ e. WritesBy e b c (text_to s line)) end answered.writes in
+    let counts : CountsBy Finished (text_to s line) old new = subst (λ e. CountsBy e (text_to s line) old new) end answered.counts in
     record {
-      done = sofar.done ++ text_to line ∷ [];
-      texts = sofar.texts ∙ ap (λ ls. sofar.done ++ texts_of ls) is ∙ sym (append_assoc sofar.done (text_to line ∷ []) (texts_of (cut long after)));
+      done = sofar.done ++ (text_to s line) ∷ [];
+      texts = next_text s (texts_to script) sofar.done (cut long rest) (cut long after) line sofar.texts is ∙ sym (append_assoc sofar.done ((text_to s line) ∷ []) (texts_from (state_after s line) (cut long after))) ∙ ap (λ u. (sofar.done ++ (text_to s line) ∷ []) ++ texts_from u (cut long after)) (sym next);
       wrote = record {
-        written = writes.written ∙ ap (λ o. append_known o (text_to line)) sofar.wrote.written ∙ append-append a.written (joined sofar.done) (text_to line) ∙ ap (append_known a.written) (sym (joined-append sofar.done (text_to line ∷ []) ∙ ap (λ t. joined sofar.done ++ t) (list_append-nil (text_to line))));
+        written = writes.written ∙ ap (λ o. append_known o (text_to s line)) sofar.wrote.written ∙ append-append a.written (joined sofar.done) (text_to s line) ∙ ap (append_known a.written) (sym (joined-append sofar.done ((text_to s line) ∷ []) ∙ ap (λ t. joined sofar.done ++ t) (list_append-nil (text_to s line))));
         write_faults = writes.write_faults ∙ sofar.wrote.write_faults;
       };
       reads = record { left = answered.reads.left ∙ sofar.reads.left; read_faults = answered.reads.read_faults ∙ sofar.reads.read_faults; bytes_read = answered.reads.bytes_read ∙ sofar.reads.bytes_read; empty_reads = answered.reads.empty_reads ∙ sofar.reads.empty_reads };
-      replies = omega (arith, counts.0, sofar.replies, sum_texts-append one_reply sofar.done (text_to line ∷ []));
-      errors = omega (arith, counts.1, sofar.errors, sum_texts-append one_error sofar.done (text_to line ∷ []));
-      room = omega (arith, counts.0, sofar.room, less, one_most (text_to line));
-      error_room = omega (arith, counts.1, sofar.error_room, less, one_error_most (text_to line));
+      replies = omega (arith, counts.0, sofar.replies, sum_texts-append one_reply sofar.done ((text_to s line) ∷ []));
+      errors = omega (arith, counts.1, sofar.errors, sum_texts-append one_error sofar.done ((text_to s line) ∷ []));
+      room = omega (arith, counts.0, sofar.room, less, one_most (text_to s line));
+      error_room = omega (arith, counts.1, sofar.error_room, less, one_error_most (text_to s line));
       end = end;
       is_long = sofar.is_long;
     }
 
 -- all replies are written, and a last text up to where it stopped
-pub finished : (a b : PortState) (script rest : List ℕ) (long : Bool) (report : SessionReport) → SoFar a b script long rest report → cut long rest ≡ [] → long ≡ false → Outcome script a.written b.written report
-finished a b script rest long report sofar none short =
-    let texts : texts_to script ≡ sofar.done = sofar.texts ∙ ap (λ ls. sofar.done ++ texts_of ls) none ∙ list_append-nil sofar.done in
+pub finished : (a b : PortState) (script : List ℕ) (s : State) (rest : List ℕ) (long : Bool) (report : SessionReport) → SoFar a b script long s rest report → cut long rest ≡ [] → long ≡ false → Outcome script a.written b.written report
+finished a b script s rest long report sofar none short =
+    let texts : texts_to script ≡ sofar.done = sofar.texts ∙ ap (λ ls. sofar.done ++ texts_from s ls) none ∙ list_append-nil sofar.done in
     let whole : fresh script ≡ joined sofar.done = ap (λ t. joined (texts_to script) ++ last_text t) (sym sofar.is_long ∙ short) ∙ list_append-nil (joined (texts_to script)) ∙ ap joined texts in
     record {
       wrote = joined sofar.done;
@@ -159,12 +161,12 @@ finished a b script rest long report sofar none short =
       errors = sofar.errors ∙ sym (count_all one_error (texts_to script) sofar.done 0 (length (joined sofar.done)) texts (sym (add-zero (length (joined sofar.done)))));
     }
 
-pub long_written : (e : End) (a b c : PortState) (script rest : List ℕ) (long : Bool) (old new : SessionReport) → e ≡ new.end → SoFar a b script long rest old → cut long rest ≡ [] → long ≡ true → WritesLast e b c → new.replies ≡ old.replies → new.errors ≡ old.errors → Outcome script a.written c.written new
-long_written Finished a b c script rest long old new is sofar none isl writes replies errors = absurd writes
-long_written ReadFault a b c script rest long old new is sofar none isl writes replies errors = absurd writes
-long_written Memory a b c script rest long old new is sofar none isl writes replies errors = absurd writes
-long_written Long a b c script rest long old new is sofar none isl writes replies errors =
-    let texts : texts_to script ≡ sofar.done = sofar.texts ∙ ap (λ ls. sofar.done ++ texts_of ls) none ∙ list_append-nil sofar.done in
+pub long_written : (e : End) (a b c : PortState) (script : List ℕ) (s : State) (rest : List ℕ) (long : Bool) (old new : SessionReport) → e ≡ new.end → SoFar a b script long s rest old → cut long rest ≡ [] → long ≡ true → WritesLast e b c → new.replies ≡ old.replies → new.errors ≡ old.errors → Outcome script a.written c.written new
+long_written Finished a b c script s rest long old new is sofar none isl writes replies errors = absurd writes
+long_written ReadFault a b c script s rest long old new is sofar none isl writes replies errors = absurd writes
+long_written Memory a b c script s rest long old new is sofar none isl writes replies errors = absurd writes
+long_written Long a b c script s rest long old new is sofar none isl writes replies errors =
+    let texts : texts_to script ≡ sofar.done = sofar.texts ∙ ap (λ ls. sofar.done ++ texts_from s ls) none ∙ list_append-nil sofar.done in
     let whole : fresh script ≡ joined sofar.done ++ too_long = ap (λ t. joined (texts_to script) ++ last_text t) (sym sofar.is_long ∙ isl) ∙ ap (λ ts. joined ts ++ too_long) texts in
     record {
       wrote = joined sofar.done ++ too_long;
@@ -175,8 +177,8 @@ long_written Long a b c script rest long old new is sofar none isl writes replie
       replies = replies ∙ sofar.replies ∙ sym (count_all one_reply (texts_to script) sofar.done (length too_long) _ texts (length-append (joined sofar.done) too_long));
       errors = errors ∙ sofar.errors ∙ sym (count_all one_error (texts_to script) sofar.done (length too_long) _ texts (length-append (joined sofar.done) too_long));
     }
-long_written WriteFault a b c script rest long old new is sofar none isl writes replies errors =
-    let texts : texts_to script ≡ sofar.done = sofar.texts ∙ ap (λ ls. sofar.done ++ texts_of ls) none ∙ list_append-nil sofar.done in
+long_written WriteFault a b c script s rest long old new is sofar none isl writes replies errors =
+    let texts : texts_to script ≡ sofar.done = sofar.texts ∙ ap (λ ls. sofar.done ++ texts_from s ls) none ∙ list_append-nil sofar.done in
     let whole : fresh script ≡ joined sofar.done ++ too_long = ap (λ t. joined (texts_to script) ++ last_text t) (sym sofar.is_long ∙ isl) ∙ ap (λ ts. joined ts ++ too_long) texts in
     record {
       wrote = joined sofar.done ++ take writes.count too_long;
@@ -188,10 +190,10 @@ long_written WriteFault a b c script rest long old new is sofar none isl writes 
       errors = errors ∙ sofar.errors ∙ sym (count_all one_error (texts_to script) sofar.done (length (take writes.count too_long)) _ texts (length-append (joined sofar.done) (take writes.count too_long)));
     }
 
-pub starts : (a : PortState) (script rest : List ℕ) (report : SessionReport) → rest ≡ answered_part script → length rest ≤ 16777217 → report.replies ≡ 0 → report.errors ≡ 0 → report.end ≡ Finished → SoFar a a script (is_long script) rest report
-starts a script rest report part most replies errors end = record {
+pub starts : (a : PortState) (script : List ℕ) (s : State) (rest : List ℕ) (report : SessionReport) → rest ≡ answered_part script → length rest ≤ 16777217 → report.replies ≡ 0 → report.errors ≡ 0 → report.end ≡ Finished → s ≡ first_state → SoFar a a script (is_long script) s rest report
+starts a script s rest report part most replies errors end first = record {
   done = [];
-  texts = ap (λ r. texts_of (cut (is_long script) r)) (sym part);
+  texts = ap (λ r. texts_from first_state (cut (is_long script) r)) (sym part) ∙ ap (λ u. texts_from u (cut (is_long script) rest)) (sym first);
   wrote = record { written = append-nil a.written; write_faults = refl };
   reads = record { left = refl; read_faults = refl; bytes_read = refl; empty_reads = refl };
   replies = replies;
@@ -202,7 +204,7 @@ starts a script rest report part most replies errors end = record {
   is_long = refl;
 }
 
-pub stops_at : (a b c : PortState) (script rest line after : List ℕ) (long : Bool) (old new : SessionReport) → SoFar a b script long rest old → cut long rest ≡ line ∷ cut long after → length after < length rest → Answered b c (text_to line) old new → new.end ≢ Finished → Outcome script a.written c.written new
-stops_at a b c script rest line after long old new sofar is less answered not =
-    let texts = next_text (texts_to script) sofar.done (cut long rest) (cut long after) line sofar.texts is in
-    stopped a b c script (text_to line) sofar.done (texts_of (cut long after)) old new texts sofar.wrote sofar.replies sofar.errors (stopped_in new.end b c (text_to line) old new refl not answered.writes answered.counts)
+pub stops_at : (a b c : PortState) (script : List ℕ) (s : State) (rest line after : List ℕ) (long : Bool) (old new : SessionReport) → SoFar a b script long s rest old → cut long rest ≡ line ∷ cut long after → length after < length rest → Answered b c (text_to s line) old new → new.end ≢ Finished → Outcome script a.written c.written new
+stops_at a b c script s rest line after long old new sofar is less answered not =
+    let texts = next_text s (texts_to script) sofar.done (cut long rest) (cut long after) line sofar.texts is in
+    stopped a b c script (text_to s line) sofar.done (texts_from (state_after s line) (cut long after)) old new texts sofar.wrote sofar.replies sofar.errors (stopped_in new.end b c (text_to s line) old new refl not answered.writes answered.counts)

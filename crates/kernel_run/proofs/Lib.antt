@@ -1,10 +1,10 @@
 pub mod Answering
-pub mod Asking
+pub mod Commands
 pub mod Cutting
-pub mod Leading
+pub mod Forced
 pub mod Reading
-pub mod SphereDims
-pub mod Texts
+pub mod Statuses
+pub mod Treated
 pub mod Truth
 pub mod Whole
 pub mod Writing

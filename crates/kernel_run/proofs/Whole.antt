@@ -4,8 +4,9 @@ use Rattle.std.proofs.lemmas.Bool.{le-leb, leb-true, leb-false}
 use Rattle.std.proofs.lemmas.List.{take-append-le}
 use Rattle.std.specs.Io.KnownBytes.{prepend_known, IsAtEnd}
 use Rattle.port_io.specs.Ports.{PortState}
+use Rattle.session_core.specs.Lines.{first_state}
 use Rattle.kernel_run.specs.Counts.{sum_whole, one_reply, one_error}
-use Rattle.kernel_run.specs.Fresh.{fresh, texts_of, texts_to, joined, is_long, answered_part, last_text}
+use Rattle.kernel_run.specs.Fresh.{fresh, texts_from, texts_to, joined, is_long, answered_part, last_text}
 use Rattle.kernel_run.specs.Lines.{cut}
 use Rattle.kernel_run.specs.Outcome.{Outcome, IsComplete, HasLengthFor}
 use Rattle.kernel_run.specs.Session.{ReadsOn, ReadStops, WritesNothing}
@@ -17,7 +18,7 @@ use Rattle.kernel_run.proofs.Answering.{sum_whole-zero, append-nil}
 -- the same parts, the same replies
 same_parts : (xs ys : List ℕ) (w v : Option (List ℕ)) (r : SessionReport) → is_long ys ≡ is_long xs → answered_part ys ≡ answered_part xs → Outcome xs w v r → Outcome ys w v r
 same_parts xs ys w v r long part o =
-    let texts : texts_to ys ≡ texts_to xs = ap (λ b. texts_of (cut b (answered_part ys))) long ∙ ap (λ p. texts_of (cut (is_long xs) p)) part in
+    let texts : texts_to ys ≡ texts_to xs = ap (λ b. texts_from first_state (cut b (answered_part ys))) long ∙ ap (λ p. texts_from first_state (cut (is_long xs) p)) part in
     let same : fresh ys ≡ fresh xs = ap (λ ts. joined ts ++ last_text (is_long ys)) texts ∙ ap (λ b. joined (texts_to xs) ++ last_text b) long in
     record {
       wrote = o.wrote;

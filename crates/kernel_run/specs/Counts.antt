@@ -5,9 +5,11 @@
 --
 -- Main definition: `sum_whole`, with `one_reply` and `one_error`.
 -- Worked value: of the texts "names\n", "" and "error not-built\n" the first 10 bytes hold one reply and no error.
-use Rattle.std.specs.Prelude.{ℕ, ◌+◌, ◌-◌, List, [], ◌∷◌, length, if◌then◌else◌, nat_le, eqb, codes}
+use Rattle.std.specs.Prelude.{ℕ, ◌+◌, ◌-◌, ◌==◌, Bool, List, [], ◌∷◌, length, if◌then◌else◌, nat_le, eqb, codes}
 use Rattle.std.specs.List.{starts_with}
-use Rattle.kernel_run.specs.Replies.{is_empty}
+
+abbrev pub is_empty : List ℕ → Bool
+is_empty bytes = length bytes == 0
 
 -- 1 for a text that is not empty
 abbrev pub one_reply : List ℕ → ℕ

@@ -1,11 +1,11 @@
 -- What the program does to its ports, and the status that it ends with.
 --
 -- This is the end of the thread: what `run_kernel` says of the port that it uses. Below it stand `Words` (which words
--- are a form), `Fresh` (what is written for a script), `Replies` and `Cycles` (what is written for a line), `Questions`
--- (which line asks what) and `Truth` (what the replies say of the spheres themselves).
+-- are a form), `Fresh` (what is written for a script) and `Truth` (what the replies say of the spaces themselves), and
+-- in `session_core` what a line and a command come to (`Lines`, `Answer`).
 --
 -- Main definitions: `OneSession`, `ShowsUsage`.
--- Worked value: one session whose console has "(names)\n" and no fault writes "error not-built\n", with status 0.
+-- Worked value: one session whose console has "(names)\n" and no fault writes "names\n", with status 0.
 use Rattle.std.specs.Prelude.{◌≡◌, ◌⊎◌, ℕ, ◌≤◌, ◌<◌, List, ◌∷◌, ◌++◌, take, length, IfSome}
 use Rattle.std.specs.Io.KnownBytes.{append_known, IsAtEnd}
 use Rattle.port_io.specs.Ports.{PortState, Rose, raised}

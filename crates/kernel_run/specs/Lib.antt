@@ -1,13 +1,10 @@
 pub mod Counts
-pub mod Cycles
 pub mod Fresh
 pub mod Kernel
 pub mod Lines
-pub mod Numbers
 pub mod Outcome
 pub mod Progress
-pub mod Questions
-pub mod Replies
 pub mod Session
+pub mod Treated
 pub mod Truth
 pub mod Words

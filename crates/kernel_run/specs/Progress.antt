@@ -1,8 +1,9 @@
 -- One step of a session.
-use Rattle.std.specs.Prelude.{◌≡◌, ℕ, ◌+◌, List}
+use Rattle.std.specs.Prelude.{◌≡◌, false, ℕ, ◌+◌, List}
 use Rattle.port_io.specs.Ports.{PortState}
+use Rattle.session_core.specs.Sessions.{SessionView}
 use Rattle.kernel_run.specs.Counts.{one_reply, one_error}
-use Rattle.kernel_run.specs.Fresh.{too_long}
+use Rattle.kernel_run.specs.Fresh.{state_after, too_long}
 use Rattle.kernel_run.specs.Session.{ReadsNothing, WritesOn, WritesPart, WritesNothing}
 use Rattle.kernel_run.specs.declared.report.SessionReport.{SessionReport}
 use Rattle.kernel_run.specs.declared.report.End.{End}
@@ -20,6 +21,11 @@ WritesBy ReadFault before after text = ⊥
 abbrev pub CountsBy : End → List ℕ → SessionReport → SessionReport → Type 0
 CountsBy Finished text old new = (new.replies ≡ old.replies + one_reply text) × (new.errors ≡ old.errors + one_error text)
 CountsBy end text old new = (new.replies ≡ old.replies) × (new.errors ≡ old.errors)
+
+-- the session as a line that was answered leaves it
+pub record IsAfter (old : SessionView) (line : List ℕ) (new : SessionView) : Type 0 where
+  pub state : new.state ≡ state_after old.state line
+  pub open_still : new.is_ended ≡ false
 
 pub record Answered (before after : PortState) (text : List ℕ) (old new : SessionReport) : Type 0 where
   pub writes : WritesBy new.end before after text

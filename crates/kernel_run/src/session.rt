@@ -1,20 +1,26 @@
 // One session over a port.
-ghost use Rattle.std.specs.Prelude.{◌≡◌, ◌≢◌, ◌≤◌, ◌<◌, length, IfSome};
+ghost use Rattle.std.specs.Prelude.{◌≡◌, ◌≢◌, ◌≤◌, ◌<◌, false, length, IfOk, IfSome, OnOk};
 ghost use Rattle.std.specs.Io.KnownBytes.{IsAtEnd};
 ghost use Rattle.port_io.specs.Ports.{Rose, raised};
-ghost use Rattle.kernel_run.specs.Fresh.{text_to, answered_part};
+ghost use Rattle.session_core.specs.Sessions.{first_session};
+ghost use Rattle.kernel_run.specs.Fresh.{reply_to, text_to, answered_part};
 ghost use Rattle.kernel_run.specs.Session.{ReadsNothing};
 ghost use Rattle.kernel_run.specs.Outcome.{Outcome, HasLengthFor};
 ghost use Rattle.kernel_run.specs.Truth.{AreHomologyLists};
-ghost use Rattle.kernel_run.specs.Progress.{Answered, EndedLong};
+ghost use Rattle.kernel_run.specs.Progress.{Answered, IsAfter, EndedLong};
+ghost use Rattle.kernel_run.specs.Treated.{TreatsAll};
 
+use crate::by_rules::ByRules;
 use crate::lines::next_line;
 use crate::read::read_script;
-use crate::reply::text_to;
 use crate::write::write_text;
 use crate::{End, SessionReport};
+use oracle_iface::RuleSet;
 use port_io::Port;
-use std::alloc::Global;
+use reply_text::{ByteList, Reply};
+use rule_book::Rules;
+use session_core::{LineFault, Session, new_session};
+use std::alloc::{AllocError, Global};
 
 const MOST_BYTES: usize = 16_777_216;
 
@@ -39,7 +45,14 @@ pub fn run_session<P: Port>(alloc: Global, port: &mut P) -> SessionReport
     ensures ended { result.end ≡ End.Finished → Rose (P.state port.old).empty_reads (P.state port.new).empty_reads }
 {
     match read_script(alloc, port) {
-        Ok(script) => answer_script(alloc, port, &script),
+        Ok(script) => {
+            let mut session = new_session(alloc);
+            let mut answerer = ByRules {
+                alloc,
+                rules: Rules,
+            };
+            answer_script(alloc, port, &mut session, &mut answerer, &script)
+        }
         Err(end) => SessionReport {
             replies: 0,
             errors: 0,
@@ -48,9 +61,17 @@ pub fn run_session<P: Port>(alloc: Global, port: &mut P) -> SessionReport
     }
 }
 
-// Answers the lines of a script that was read.
-fn answer_script<P: Port>(alloc: Global, port: &mut P, script: &[u8]) -> SessionReport
-    requires { length script.now ≤ 16777217 }
+// Answers the lines of a script that was read, in a new session.
+fn answer_script<P: Port, R: RuleSet>(
+    alloc: Global,
+    port: &mut P,
+    session: &mut Session,
+    answerer: &mut ByRules<R>,
+    script: &[u8],
+) -> SessionReport
+    requires length { length script.now ≤ 16777217 }
+    requires session { session.old ≡ first_session }
+    requires rules { TreatsAll (R.treats answerer.old.rules) }
     ensures output { Outcome script.now (P.state port.old).written (P.state port.new).written result }
     ensures reads { ReadsNothing (P.state port.old) (P.state port.new) }
     ensures write_fault { result.end ≡ End.WriteFault → Rose (P.state port.old).write_faults (P.state port.new).write_faults }
@@ -67,7 +88,7 @@ fn answer_script<P: Port>(alloc: Global, port: &mut P, script: &[u8]) -> Session
         end: End::Finished,
     };
     while let Some((line, after)) = next_line(rest, long) {
-        report = answer_line(alloc, port, line, report);
+        report = answer_line(alloc, port, session, answerer, line, report);
         if report.end != End::Finished {
             return report;
         }
@@ -88,35 +109,85 @@ fn part_to_answer(script: &[u8]) -> &[u8]
     }
 }
 
-// Writes the reply to one line, and counts it.
-fn answer_line<P: Port>(
+// Answers one line: the reply is written and counted.
+fn answer_line<P: Port, R: RuleSet>(
     alloc: Global,
     port: &mut P,
+    session: &mut Session,
+    answerer: &mut ByRules<R>,
     line: &[u8],
     report: SessionReport,
 ) -> SessionReport
     requires replies { report.replies < 16777217 }
     requires errors { report.errors < 16777217 }
     requires end { report.end ≡ End.Finished }
-    ensures { Answered (P.state port.old) (P.state port.new) (text_to line.now) report result }
+    requires session { session.old.is_ended ≡ false }
+    requires rules { TreatsAll (R.treats answerer.old.rules) }
+    ensures answer { Answered (P.state port.old) (P.state port.new) (text_to session.old.state line.now) report result }
+    ensures session { result.end ≡ End.Finished → IsAfter session.old line.now session.new }
+    ensures rules { answerer.new ≡ answerer.old }
 {
-    match text_to(alloc, line) {
-        Ok(text) => match write_text(port, text.as_bytes()) {
-            Ok(()) => SessionReport {
-                replies: report.replies + u64::from(!text.is_empty()),
-                errors: report.errors + u64::from(text.as_bytes().starts_with(b"error")),
-                end: End::Finished,
-            },
-            Err(_) => SessionReport {
-                end: End::WriteFault,
-                ..report
-            },
-        },
+    match line_text(alloc, session, answerer, line) {
+        Ok(text) => write_counted(port, text.as_slice(), report),
         Err(_) => SessionReport {
             end: End::Memory,
             ..report
         },
     }
+}
+
+// Writes the text of a reply, and counts it.
+fn write_counted<P: Port>(port: &mut P, text: &[u8], report: SessionReport) -> SessionReport
+    requires replies { report.replies < 16777217 }
+    requires errors { report.errors < 16777217 }
+    requires end { report.end ≡ End.Finished }
+    ensures { Answered (P.state port.old) (P.state port.new) text.now report result }
+{
+    match write_text(port, text) {
+        Ok(()) => SessionReport {
+            replies: report.replies + u64::from(!text.is_empty()),
+            errors: report.errors + u64::from(text.starts_with(b"error")),
+            end: End::Finished,
+        },
+        Err(_) => SessionReport {
+            end: End::WriteFault,
+            ..report
+        },
+    }
+}
+
+// The text of the reply to one line.
+fn line_text<R: RuleSet>(
+    alloc: Global,
+    session: &mut Session,
+    answerer: &mut ByRules<R>,
+    line: &[u8],
+) -> Result<ByteList, AllocError>
+    requires session { session.old.is_ended ≡ false }
+    requires rules { TreatsAll (R.treats answerer.old.rules) }
+    ensures text { IfOk result (λ text. text ≡ text_to session.old.state line.now) }
+    ensures session { OnOk result (IsAfter session.old line.now session.new) }
+    ensures rules { answerer.new ≡ answerer.old }
+{
+    match line_reply(session, answerer, line) {
+        Ok(reply) => reply_text::reply_text(alloc, &reply),
+        Err(_) => Err(AllocError),
+    }
+}
+
+// The reply to one line.
+fn line_reply<R: RuleSet>(
+    session: &mut Session,
+    answerer: &mut ByRules<R>,
+    line: &[u8],
+) -> Result<Reply, LineFault>
+    requires session { session.old.is_ended ≡ false }
+    requires rules { TreatsAll (R.treats answerer.old.rules) }
+    ensures reply { IfOk result (λ reply. reply ≡ reply_to session.old.state line.now) }
+    ensures session { OnOk result (IsAfter session.old line.now session.new) }
+    ensures rules { answerer.new ≡ answerer.old }
+{
+    session.feed_line(line, answerer)
 }
 
 // Writes that the script is too long.

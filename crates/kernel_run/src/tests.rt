@@ -1,8 +1,12 @@
 // What the program does to the ports that it is handed, over memory ports.
 use super::*;
+use crate::examples::EXAMPLES;
 use port_io::{PortBox, WordList, mem_port};
 use std::alloc::{AllocError, Global};
+use std::process::Abort;
+use std::sync::Wait;
 use std::test::Fail;
+use std::thread::Threads;
 
 // The words of a command line.
 fn words_of(alloc: Global, texts: &[&str]) -> Result<WordList, AllocError> {
@@ -13,6 +17,27 @@ fn words_of(alloc: Global, texts: &[&str]) -> Result<WordList, AllocError> {
     Ok(words)
 }
 
+// What a session writes for a script.
+fn check_script<R: Abort + Threads + Wait + Sync>(
+    rt: &R,
+    alloc: Global,
+    input: &str,
+    output: &str,
+) -> Result<(), AllocError> {
+    let words = words_of(alloc, &["session"])?;
+    let mut ports: Vec<PortBox> = Vec::new(alloc);
+    ports.push(Box::new(
+        alloc,
+        mem_port(alloc, input.as_bytes(), 16, 4096, &[], &[])?,
+    )?)?;
+    ports.push(Box::new(alloc, mem_port(alloc, b"", 1, 0, &[], &[])?)?)?;
+    assert_eq!(rt; words.len(), 1);
+    let status = run_kernel(rt, alloc, &words, &mut ports);
+    assert_eq!(rt; status.code, 0, "at {input}");
+    assert_eq!(rt; ports[0].output(), Some(output.as_bytes()), "at {input}");
+    Ok(())
+}
+
 #[test]
 fn a_session_answers_each_line(rt: HostRuntime) -> Result<(), Fail> {
     let alloc = rt.alloc();
@@ -21,7 +46,7 @@ fn a_session_answers_each_line(rt: HostRuntime) -> Result<(), Fail> {
         ("(homology (sphere 3) 0)\n", "homology 1\n(1 *)\n"),
         ("(homology (sphere 3) 2)\n", "homology 0\n"),
         ("(homology (sphere 2) 1)\n", "homology 0\n"),
-        ("(homology (sphere 16) 16)", "homology 1\n(1 S16)\n"),
+        ("(homology  (sphere 16) 16)", "homology 1\n(1 S16)\n"),
         ("(homology (sphere 0) 1)", "error term bad-sphere 0\n"),
         ("(homology (sphere 17) 17)", "error term bad-sphere 17\n"),
         ("(homology (sphere 3) 17)", "error degree 17\n"),
@@ -31,29 +56,62 @@ fn a_session_answers_each_line(rt: HostRuntime) -> Result<(), Fail> {
         ),
         (
             "(homology (sphere 1000000000000000000) 1)",
-            "error not-built\n",
+            "error syntax\n",
         ),
-        ("(homology (sphere 03) 3)", "error not-built\n"),
-        ("(homology  (sphere 3) 3)", "error not-built\n"),
-        ("(names)\n", "error not-built\n"),
+        ("(homology (sphere 03) 3)", "error syntax\n"),
+        ("(homology (k-z-1) 1)", "error not-built\n"),
         ("", ""),
+        ("; nothing", ""),
         (
             "\n\n(names)\n\n(homology (sphere 1) 1)",
-            "error not-built\nhomology 1\n(1 S1)\n",
+            "names\nhomology 1\n(1 S1)\n",
         ),
     ];
-    let words = words_of(alloc, &["session"])?;
     for (input, output) in rows {
-        let mut ports: Vec<PortBox> = Vec::new(alloc);
-        ports.push(Box::new(
-            alloc,
-            mem_port(alloc, input.as_bytes(), 16, 4096, &[], &[])?,
-        )?)?;
-        ports.push(Box::new(alloc, mem_port(alloc, b"", 1, 0, &[], &[])?)?)?;
-        assert_eq!(rt; words.len(), 1);
-        let status = run_kernel(&rt, alloc, &words, &mut ports);
-        assert_eq!(rt; status.code, 0, "at {input}");
-        assert_eq!(rt; ports[0].output(), Some(output.as_bytes()), "at {input}");
+        check_script(&rt, alloc, input, output)?;
+    }
+    Ok(())
+}
+
+#[test]
+fn a_session_keeps_its_names_and_its_field(rt: HostRuntime) -> Result<(), Fail> {
+    let alloc = rt.alloc();
+    let rows = [
+        (
+            "(setf x (table (a) (b)))\n(homology x 0)\n",
+            "defined x\nhomology 2\n(1 a)\n(1 b)\n",
+        ),
+        (
+            "(setf rp2 (table (v) (e v v) (t e 0:v e)))\n(betti rp2 0 2)\n(field 3)\n(betti rp2 0 2)\n(express rp2 1 (1 e))\n(express rp2 2 (1 t))\n",
+            "defined rp2\nbetti 1 1 1\nfield 3\nbetti 1 0 0\ncoefficients\nchain (2 t)\nerror not-a-cycle (2 e)\n",
+        ),
+        (
+            "(setf x (table (a) (b) (e a b) (t e e e)))\n(setf x (table))\n(names)\n",
+            "error table face-law 3 0 2\nerror table no-vertex\nnames\n",
+        ),
+    ];
+    for (input, output) in rows {
+        check_script(&rt, alloc, input, output)?;
+    }
+    Ok(())
+}
+
+#[test]
+fn a_session_goes_on_after_each_refusal(rt: HostRuntime) -> Result<(), Fail> {
+    let alloc = rt.alloc();
+    let input =
+        "(homolgy x 1)\n(betti q 0 1)\n(field 4)\n(homology (sphere 3) 17)\n(boundary (sphere 2) 2 (1 S3))\n(setf s (sphere 0))\n(homology (sphere 3) 3";
+    let output =
+        "error syntax\nerror unknown-name q\nerror field 4\nerror degree 17\nerror simplex 1\nerror term bad-sphere 0\nerror syntax\n";
+    check_script(&rt, alloc, input, output)?;
+    Ok(())
+}
+
+#[test]
+fn examples_and_transcripts_are_answered_as_they_say(rt: HostRuntime) -> Result<(), Fail> {
+    let alloc = rt.alloc();
+    for (_, typed, printed) in EXAMPLES {
+        check_script(&rt, alloc, typed, printed)?;
     }
     Ok(())
 }
@@ -65,7 +123,7 @@ fn a_failing_read_and_a_failing_write_give_status_3(rt: HostRuntime) -> Result<(
     let rows: [(&[u64], &[u64], &[u8]); 3] = [
         (&[3], &[], b""),
         (&[], &[1], b""),
-        (&[], &[2], b"error not-built\n"),
+        (&[], &[2], b"names\n"),
     ];
     let words = words_of(alloc, &["session"])?;
     for (bad_reads, bad_writes, output) in rows {
@@ -87,7 +145,8 @@ fn a_failing_read_and_a_failing_write_give_status_3(rt: HostRuntime) -> Result<(
 fn a_script_that_is_too_long_gives_status_4(rt: HostRuntime) -> Result<(), Fail> {
     let alloc = rt.alloc();
     let mut input = Vec::new(alloc);
-    input.resize(16_777_217, b'\n')?;
+    input.extend_from_slice(b"(names)\n")?;
+    input.resize(16_777_217, b' ')?;
     let words = words_of(alloc, &["session"])?;
     let mut ports: Vec<PortBox> = Vec::new(alloc);
     ports.push(Box::new(alloc, mem_port(alloc, &input, 4096, 4096, &[], &[])?)?)?;
@@ -97,7 +156,7 @@ fn a_script_that_is_too_long_gives_status_4(rt: HostRuntime) -> Result<(), Fail>
     assert_eq!(rt; status.code, 4);
     assert_eq!(rt;
         ports[0].output(),
-        Some(b"error over script 16777217\n".as_slice())
+        Some(b"names\nerror over script 16777217\n".as_slice())
     );
     Ok(())
 }
@@ -125,14 +184,7 @@ fn other_words_give_the_usage_line_and_status_2(rt: HostRuntime) -> Result<(), F
 #[test]
 fn a_session_reports_its_replies_and_errors(rt: HostRuntime) -> Result<(), Fail> {
     let alloc = rt.alloc();
-    let mut port = mem_port(
-        alloc,
-        b"(names)\n\n(homology (sphere 1) 1)\n",
-        16,
-        4096,
-        &[],
-        &[],
-    )?;
+    let mut port = mem_port(alloc, b"(names)\n\n(field 4)\n", 16, 4096, &[], &[])?;
     let report = run_session(alloc, &mut port);
     assert_eq!(rt;
         report,

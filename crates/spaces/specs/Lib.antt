@@ -13,4 +13,5 @@ pub mod Allowed
 pub mod Counts
 pub mod Orders
 pub mod SmallCells
+pub mod EilenbergZilber
 pub mod SphereCycles

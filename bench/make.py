@@ -1,0 +1,148 @@
+#!/usr/bin/env python3
+"""Writes a script to standard output.
+
+usage: bench/make.py KIND NUMBER..
+  names N           N names, each set to a sphere and asked for its Betti numbers, and all names at the end
+  renames N         N lines that set a hundred names again and again
+  largest_table N   N times a table of 256 rows with 17 faces each but the first two, and questions about it
+  grid_torus A B N  the torus of A times B squares, each cut in two, and N rounds of questions about it over three fields
+  graph V N         the complete graph on V vertices, and N rounds of questions
+  solid N           a simplex of dimension 7 with all its faces, 255 cells, and N rounds of questions over all eight fields
+  long_chains N     N lines of up to 65,536 bytes, each one chain with thousands of terms that repeat the triangles of a torus
+  long_refusals N   N lines of up to 65,536 bytes that are refused at their end
+"""
+import sys
+from itertools import combinations
+
+LINE = 65_536
+PRIMES = (2, 3, 5, 7, 11, 13, 17, 19)
+
+
+def table(name, rows):
+    return f"(setf {name} (table {' '.join('(' + ' '.join(row) + ')' for row in rows)}))"
+
+
+def names(count):
+    for k in range(count):
+        yield f"(setf a{k} (sphere {1 + k % 16}))"
+        yield f"(betti a{k} 0 3)"
+    yield "(names)"
+
+
+def renames(count):
+    for k in range(count):
+        yield f"(setf a{k % 100} (sphere {1 + k % 16}))"
+    yield "(names)"
+
+
+def largest_table(count):
+    degenerate = "-".join(str(j) for j in reversed(range(14))) + ":v"
+    rows = [["v"], ["w"] + [degenerate] * 16] + [[f"c{k}"] + ["w"] * 17 for k in range(254)]
+    for _ in range(count):
+        yield table("x", rows)
+        yield "(betti x 0 16)"
+        yield "(homology x 16)"
+        yield "(express x 15 (1 w))"
+        yield "(express x 16 (1 c0) (-1 c253))"
+
+
+def grid_torus_rows(wide, high):
+    """Vertices, then the edges to the right, up and across, then the two triangles of each square."""
+    def at(kind, i, j):
+        return f"{kind}{i % wide}_{j % high}"
+    places = [(i, j) for i in range(wide) for j in range(high)]
+    rows = [[at("v", i, j)] for i, j in places]
+    rows += [[at("r", i, j), at("v", i + 1, j), at("v", i, j)] for i, j in places]
+    rows += [[at("u", i, j), at("v", i, j + 1), at("v", i, j)] for i, j in places]
+    rows += [[at("d", i, j), at("v", i + 1, j + 1), at("v", i, j)] for i, j in places]
+    rows += [[at("s", i, j), at("u", i + 1, j), at("d", i, j), at("r", i, j)] for i, j in places]
+    rows += [[at("t", i, j), at("r", i, j + 1), at("d", i, j), at("u", i, j)] for i, j in places]
+    return rows
+
+
+def grid_torus(wide, high, count):
+    yield table("torus", grid_torus_rows(wide, high))
+    around = " ".join(f"(1 r{i}_{high // 2})" for i in range(wide))
+    for _ in range(count):
+        for p in (2, 3, 19):
+            yield f"(field {p})"
+            yield "(betti torus 0 2)"
+            yield "(homology torus 0)"
+            yield "(homology torus 1)"
+            yield "(homology torus 2)"
+            yield f"(express torus 1 {around})"
+            yield f"(express torus 0 (1 v0_0) (-1 v{wide - 1}_{high - 1}))"
+
+
+def graph(vertices, count):
+    rows = [[f"v{i}"] for i in range(vertices)]
+    rows += [[f"e{i}_{j}", f"v{j}", f"v{i}"] for i, j in combinations(range(vertices), 2)]
+    yield table("graph", rows)
+    for _ in range(count):
+        yield "(betti graph 0 1)"
+        yield "(homology graph 1)"
+        yield f"(express graph 0 (1 v0) (1 v{vertices - 1}))"
+
+
+def solid(count):
+    faces = [face for size in range(1, 9) for face in combinations("01234567", size)]
+    def name(face):
+        return "c" + "".join(face)
+    rows = [[name(face)] + [name(face[:i] + face[i + 1:]) for i in range(len(face)) if len(face) > 1] for face in faces]
+    yield table("solid", rows)
+    for _ in range(count):
+        for p in PRIMES:
+            yield f"(field {p})"
+            yield "(betti solid 0 8)"
+            yield "(express solid 2 (1 c123) (-1 c023) (1 c013) (-1 c012))"
+            yield "(homology solid 0)"
+
+
+def filled(start, parts, end):
+    """The start, as many parts as fit in a line, and the end."""
+    line, room = [start], LINE - len(start) - len(end)
+    k = 0
+    while len(parts[k % len(parts)]) <= room:
+        part = parts[k % len(parts)]
+        line.append(part)
+        room -= len(part)
+        k += 1
+    return "".join(line) + end
+
+
+def long_chains(count):
+    yield table("torus", grid_torus_rows(6, 7))
+    # 5 has no common factor with the number of squares, so that the terms come in another order than the cells
+    parts = [f" ({1 + k % 9} {'st'[k // 42]}{5 * k % 6}_{5 * k % 7})" for k in range(84)]
+    yield "(field 19)"
+    for _ in range(count):
+        yield filled("(boundary torus 2", parts, ")")
+
+
+def long_refusals(count):
+    lines = [
+        filled("(boundary (sphere 1) 1", [" (1 S1)"], " (1 S1"),
+        filled("(betti (table", [" (v)"], ") 0)"),
+        filled("", ["("], ""),
+        filled("(boundary (sphere 1) 1 (1 ", ["[S1 "], "))"),
+        filled("(boundary (sphere 1) 1 (1 ", ["0-"], ":S1))"),
+        filled("(betti ", ["a"], " 0 1)"),
+        filled("", [" "], "x"),
+    ]
+    for k in range(count):
+        yield lines[k % len(lines)]
+
+
+KINDS = {kind.__name__: kind for kind in (names, renames, largest_table, grid_torus, graph, solid, long_chains, long_refusals)}
+
+
+def main():
+    if len(sys.argv) < 3 or sys.argv[1] not in KINDS:
+        sys.exit(__doc__)
+    for line in KINDS[sys.argv[1]](*map(int, sys.argv[2:])):
+        assert len(line) <= LINE
+        sys.stdout.write(line + "\n")
+
+
+if __name__ == "__main__":
+    main()

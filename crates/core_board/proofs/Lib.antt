@@ -1,0 +1,4 @@
+pub mod Maps
+pub mod Replays
+pub mod Legal
+pub mod MadeOver

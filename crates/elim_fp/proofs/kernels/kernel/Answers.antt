@@ -1,0 +1,11 @@
+use Rattle.std.proofs.Common.{◌≡◌, ◌∙◌, ap}
+use Rattle.fp_field.specs.Field.{number}
+use Rattle.echelons.specs.Echelon.{in_null_space, reduced_basis}
+use Rattle.elim_fp.specs.Rows.{vectors_of}
+use Rattle.elim_fp.proofs.kernels.kernel.Goals as goal
+
+pub returns-clause-rows : goal.returns-clause-rows
+returns-clause-rows c =
+    let rows : vectors_of c.as_slice-rows.result.now ≡ c.args.m.now.rows = ap vectors_of c.as_slice-rows.ensures ∙ c.rows.ensures.rows in
+    c.basis_of.ensures.rows ∙ ap vectors_of c.from_rows.ensures ∙ c.in_ok-basis.ensures.basis
+    ∙ (λ i. reduced_basis (number (c.prime.ensures i)) (c.width.ensures i) (in_null_space (number (c.prime.ensures i)) (rows i)))

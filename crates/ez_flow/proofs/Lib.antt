@@ -1,0 +1,10 @@
+pub mod Bits
+pub mod Pushes
+pub mod PairCells
+pub mod Signs
+pub mod RoundWeights
+pub mod Moves
+pub mod FlowSums
+pub mod FlowEnds
+pub mod Closed
+pub mod CodeTerms

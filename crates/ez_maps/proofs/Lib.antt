@@ -1,0 +1,13 @@
+pub mod Oks
+pub mod Apart
+pub mod ShuffleSums
+pub mod ShuffleSteps
+pub mod Kept
+pub mod TensorForms
+pub mod EmlTerms
+pub mod CutSteps
+pub mod AwTerms
+pub mod PairSteps
+pub mod TensorSteps
+pub mod Transferred
+pub mod PairReading

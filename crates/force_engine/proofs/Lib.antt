@@ -1,0 +1,11 @@
+pub mod Boards
+pub mod Fronts
+pub mod Histories
+pub mod Settling
+pub mod Ways
+pub mod Turns
+pub mod Runs
+pub mod Keys
+pub mod Calls
+pub mod HighKey
+pub mod Worked

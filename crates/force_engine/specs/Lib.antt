@@ -1,0 +1,4 @@
+pub mod Fronts
+pub mod Settled
+pub mod Ways
+pub mod Runs

@@ -1,0 +1,11 @@
+pub mod Sums
+pub mod Vectors
+pub mod Pivots
+pub mod Reduced
+pub mod CellChains
+pub mod SmallOrder
+pub mod Lengths
+pub mod Kernel
+pub mod TableMaps
+pub mod TableLists
+pub mod Worked

@@ -1,0 +1,3 @@
+pub mod Pivots
+pub mod Lists
+pub mod Kernel

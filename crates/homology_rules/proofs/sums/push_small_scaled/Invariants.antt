@@ -1,0 +1,12 @@
+use Rattle.std.proofs.Common.{ℕ, ◌+◌, ◌*◌, ◌<◌, All, take}
+use Rattle.cells.specs.declared.cells.SmallCell.{SmallCell}
+use Rattle.fp_field.specs.Field.{number, SameMod}
+use Rattle.fp_field.specs.Chains.{weigh}
+use Rattle.chain_core.specs.Formal.{numbers}
+use Rattle.homology_rules.proofs.sums.push_small_scaled.Given as goal
+
+abbrev pub invariant-loop-key : goal.invariant-loop-key
+invariant-loop-key l = record {
+  elements : All (λ t. t.1.value < number l.p) l.sum.items;
+  total : (w : SmallCell → ℕ) → SameMod (number l.p) (weigh w (numbers l.sum.items)) (weigh w (numbers l.initial.sum.items) + l.c.value * weigh w (numbers (take l.key-index l.key-items)));
+}

@@ -1,0 +1,18 @@
+use Rattle.std.proofs.Common.{rules}
+use Rattle.kernel_run.proofs.Statuses.{fresh_output}
+use Rattle.kernel_run.proofs.kernel.one_session.Goals as goal
+
+pub returns : goal.returns
+returns g c =
+    let e = c.run_session-report.ensures in
+    record {
+      listed = search rules;
+      output = fresh_output _ _ _ c.run_session-report.result _ c.status_of.ensures e.output e.size;
+      homology = e.homology;
+      fault = search rules;
+      no_fault = search rules;
+      long = search rules;
+      short = search rules;
+      ended = search rules;
+      at_end = search rules;
+    }

@@ -1,0 +1,9 @@
+pub mod Lists
+pub mod Journals
+pub mod Replays
+pub mod Counts
+pub mod Places
+pub mod Bridge
+pub mod Known
+pub mod Told
+pub mod Worked

@@ -1,0 +1,17 @@
+pub mod SizeRules
+pub mod SizesAgree
+pub mod LimitsAgree
+pub mod Named
+pub mod SmallBack
+pub mod ProperBases
+pub mod SmallDegrees
+pub mod SmallOrders
+pub mod CarriedChains
+pub mod CellOrders
+pub mod KeysBack
+pub mod CyclesNeeds
+pub mod ValidPlaces
+pub mod WorkedKeys
+pub mod KeyRanks
+pub mod OneKey
+pub mod Fronts

@@ -1,0 +1,14 @@
+use Rattle.std.proofs.Common.{◌≡◌, length, take, sym, ◌∙◌, ap, arith}
+use Rattle.std.proofs.Math.Seq.{take-length}
+use Rattle.values.specs.Sizes.{greatest}
+use Rattle.oracle_iface.specs.CodeSizes.{small_cell_integer}
+use Rattle.oracle_iface.proofs.SizeRules.{small_integer_word}
+use Rattle.oracle_iface.proofs.sizes.+small_integer_of.Goals as goal
+
+pub returns-after-loop-letter : goal.returns-after-loop-letter
+returns-after-loop-letter t c =
+    let e : c.loop-letter.letter-index ≡ length c.as_slice-letter-items.result.now = omega arith in
+    c.loop-letter.invariant
+    ∙ ap (greatest small_cell_integer)
+    (ap (λ n. take n c.as_slice-letter-items.result.now) e ∙ take-length c.as_slice-letter-items.result.now ∙ c.as_slice-letter-items.ensures)
+    ∙ sym (ap small_cell_integer c.in-Word.is ∙ small_integer_word c.in-Word.letters)

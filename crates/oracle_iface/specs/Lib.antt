@@ -1,0 +1,14 @@
+pub mod Terms
+pub mod SmallForms
+pub mod Keys
+pub mod Stands
+pub mod Forcing
+pub mod Board
+pub mod KeyRanks
+pub mod CodeSizes
+pub mod Limits
+pub mod KeyLaws
+pub mod KeyOrder
+pub mod Histories
+pub mod Memos
+pub mod Built

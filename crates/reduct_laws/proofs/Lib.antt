@@ -1,0 +1,15 @@
+pub mod Modular
+pub mod Fairly
+pub mod SixLaws
+pub mod Equations
+pub mod Rebased
+pub mod IdentityMeets
+pub mod ComposedMeets
+pub mod AskSteps
+pub mod NormalSteps
+pub mod SummedMeets
+pub mod ShiftedMeets
+pub mod RelabelSteps
+pub mod SideOrder
+pub mod Fewer
+pub mod Alike

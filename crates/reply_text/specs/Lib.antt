@@ -1,0 +1,3 @@
+pub mod CellText
+pub mod Spaces
+pub mod Text

@@ -1,0 +1,9 @@
+pub mod RowCells
+pub mod RowFaces
+pub mod Signs
+pub mod SphereBoundary
+pub mod DirectValues
+pub mod Kept
+pub mod WithinLimits
+pub mod SphereKeys
+pub mod RuleAsks

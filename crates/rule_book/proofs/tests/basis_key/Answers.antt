@@ -1,0 +1,14 @@
+use Rattle.std.proofs.Common.{◌≡◌, sym, subst}
+use Rattle.fp_field.specs.declared.prime.Prime.TheVariants.{Three}
+use Rattle.oracle_iface.specs.declared.keys.Op.TheVariants.{Basis, Cycles}
+use Rattle.oracle_iface.specs.declared.keys.Place.TheVariants.{Degree}
+use Rattle.oracle_iface.specs.Built.{IsTreated}
+use Rattle.rule_book.proofs.SphereKeys.{basis-treated}
+use Rattle.rule_book.proofs.tests.basis_key.Goals as goal
+
+pub returns-clause-treated : goal.returns-clause-treated
+returns-clause-treated c =
+    subst (λ t. IsTreated (record { op = Basis; prime = Three; place = Degree 2; term = t })) (sym c.in_ok-new.ensures) (basis-treated Three)
+
+pub returns-clause-op : goal.returns-clause-op
+returns-clause-op c = λ e. let z : Basis ≡ Cycles = e in cc

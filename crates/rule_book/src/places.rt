@@ -1,0 +1,54 @@
+// What is at the place of a key.
+ghost use Rattle.std.specs.Prelude.{◌≡◌, ℕ};
+ghost use Rattle.cells.specs.declared.cells.Cell.{Cell as AnyCell};
+ghost use Rattle.cells.specs.declared.cells.SmallCell.{SmallCell as AnySmall};
+ghost use Rattle.cells.specs.declared.cells.Cell.TheVariants.{Row as RowCell};
+ghost use Rattle.cells.specs.declared.cells.SmallCell.TheVariants.{One as OneCell};
+ghost use Rattle.oracle_iface.specs.declared.keys.Place.TheVariants.{Degree as DegreePlace, Small as SmallPlace, Big as BigPlace};
+
+use oracle_iface::Place;
+use term_lang::{Cell, SmallCell};
+
+/// The degree at a place in a degree.
+pub(crate) fn degree_at(place: &Place) -> u32
+    requires { (n : ℕ) × (place.now ≡ DegreePlace n) }
+    ensures { place.now ≡ DegreePlace result }
+{
+    match place {
+        Place::Degree(n) => *n,
+        _ => unreachable!(),
+    }
+}
+
+/// The cell at a place at a cell of the space.
+pub(crate) fn cell_at(place: &Place) -> &Cell
+    requires { (x : AnyCell) × (place.now ≡ BigPlace x) }
+    ensures { place.now ≡ BigPlace result.now }
+{
+    match place {
+        Place::Big(x) => x,
+        _ => unreachable!(),
+    }
+}
+
+/// The cell at a place at a small cell that is a cell of the space.
+pub(crate) fn small_at(place: &Place) -> &Cell
+    requires { (x : AnyCell) × (place.now ≡ SmallPlace (OneCell x)) }
+    ensures { place.now ≡ SmallPlace (OneCell result.now) }
+{
+    match place {
+        Place::Small(SmallCell::One(x)) => x,
+        _ => unreachable!(),
+    }
+}
+
+/// The row of a cell of a table.
+pub(crate) fn row_of(x: &Cell) -> u32
+    requires { (n r : ℕ) × (x.now ≡ RowCell n r) }
+    ensures { (n : ℕ) × (x.now ≡ RowCell n result) }
+{
+    match x {
+        Cell::Row(_, r) => *r,
+        _ => unreachable!(),
+    }
+}

@@ -1,0 +1,76 @@
+-- What texts and bodies mean, one layer at a time.
+use Rattle.std.proofs.Common.{◌≡◌, ℕ, List, None, sym, ◌∙◌, ap, subst}
+use Rattle.spaces.specs.Tables.{Table}
+use Rattle.spaces.specs.Spaces.{table, sphere}
+use Rattle.script_lang.specs.declared.simplices.SimplexText.{SimplexText, fold-roll-SimplexText}
+use Rattle.script_lang.specs.declared.simplices.LetterText.{LetterText, fold-LetterText}
+use Rattle.script_lang.specs.declared.simplices.BodyText.{BodyText, roll-BodyText, out-BodyText, roll-out-BodyText, map-BodyText, fold-roll-BodyText}
+use Rattle.script_lang.specs.declared.simplices.BodyText.TheVariants.{Star, Name, rolls-Star, rolls-Name}
+use Rattle.script_lang.specs.declared.simplices.BodyText.TheOpen.{BodyText-F}
+use Rattle.script_lang.specs.Meaning.{BodyMeaning, LetterMeaning, Meaning, body_step, letter_step, simplex_step, meaning}
+use Rattle.script_lang.specs.Resolved.{body_meaning}
+
+letter_meaning : LetterText → LetterMeaning
+letter_meaning l = fold-LetterText BodyMeaning LetterMeaning Meaning body_step letter_step simplex_step l
+
+-- a text means its prefix before its body
+pub meaning-is : (x : SimplexText) → meaning x ≡ simplex_step (record { degens = x.degens; body = body_meaning x.body })
+unfolding meaning body_meaning
+meaning-is x = fold-roll-SimplexText BodyMeaning LetterMeaning Meaning body_step letter_step simplex_step (record { degens = x.degens; body = x.body })
+
+rolled : (y : BodyText-F BodyText LetterText SimplexText)
+    → body_meaning (roll-BodyText y) ≡ body_step (map-BodyText BodyText LetterText SimplexText BodyMeaning LetterMeaning Meaning body_meaning letter_meaning meaning y)
+unfolding meaning body_meaning letter_meaning
+rolled y = fold-roll-BodyText BodyMeaning LetterMeaning Meaning body_step letter_step simplex_step y
+
+pub meaning-Star : body_meaning Star ≡ body_step BodyText-F.Star
+meaning-Star = ap body_meaning (sym rolls-Star) ∙ rolled BodyText-F.Star
+
+pub meaning-Name : (name : List ℕ) → body_meaning (Name name) ≡ body_step (BodyText-F.Name name)
+meaning-Name name = ap body_meaning (sym (rolls-Name name)) ∙ rolled (BodyText-F.Name name)
+
+-- other bodies mean nothing in a table or a sphere
+module _ (t : Table) (n : ℕ) where
+  table_layer : (y : BodyText-F BodyText LetterText SimplexText) → (roll-BodyText y ≡ Star → ⊥) → ((name : List ℕ) → roll-BodyText y ≡ Name name → ⊥) → body_meaning (roll-BodyText y) (table t) n ≡ None
+  table_layer BodyText-F.Star s r = absurd (s rolls-Star)
+  table_layer (BodyText-F.Name name) s r = absurd (r name (rolls-Name name))
+  table_layer (BodyText-F.Up x) s r = ap (λ f. f (table t) n) (rolled (BodyText-F.Up x))
+  table_layer (BodyText-F.Pair x y) s r = ap (λ f. f (table t) n) (rolled (BodyText-F.Pair x y))
+  table_layer (BodyText-F.Ints list) s r = ap (λ f. f (table t) n) (rolled (BodyText-F.Ints list))
+  table_layer (BodyText-F.Word letters) s r = ap (λ f. f (table t) n) (rolled (BodyText-F.Word letters))
+
+  pub table_other : (body : BodyText) → (body ≡ Star → ⊥) → ((name : List ℕ) → body ≡ Name name → ⊥) → body_meaning body (table t) n ≡ None
+  table_other body s r =
+      let e = roll-out-BodyText body in
+      ap (λ b. body_meaning b (table t) n) (sym e) ∙ table_layer (out-BodyText body) (λ h. s (sym e ∙ h)) (λ name h. r name (sym e ∙ h))
+
+module _ (m n : ℕ) where
+  sphere_layer : (y : BodyText-F BodyText LetterText SimplexText) → (roll-BodyText y ≡ Star → ⊥) → ((name : List ℕ) → roll-BodyText y ≡ Name name → ⊥) → body_meaning (roll-BodyText y) (sphere m) n ≡ None
+  sphere_layer BodyText-F.Star s r = absurd (s rolls-Star)
+  sphere_layer (BodyText-F.Name name) s r = absurd (r name (rolls-Name name))
+  sphere_layer (BodyText-F.Up x) s r = ap (λ f. f (sphere m) n) (rolled (BodyText-F.Up x))
+  sphere_layer (BodyText-F.Pair x y) s r = ap (λ f. f (sphere m) n) (rolled (BodyText-F.Pair x y))
+  sphere_layer (BodyText-F.Ints list) s r = ap (λ f. f (sphere m) n) (rolled (BodyText-F.Ints list))
+  sphere_layer (BodyText-F.Word letters) s r = ap (λ f. f (sphere m) n) (rolled (BodyText-F.Word letters))
+
+  pub sphere_other : (body : BodyText) → (body ≡ Star → ⊥) → ((name : List ℕ) → body ≡ Name name → ⊥) → body_meaning body (sphere m) n ≡ None
+  sphere_other body s r =
+      let e = roll-out-BodyText body in
+      ap (λ b. body_meaning b (sphere m) n) (sym e) ∙ sphere_layer (out-BodyText body) (λ h. s (sym e ∙ h)) (λ name h. r name (sym e ∙ h))
+
+-- a body means what `*` does, or what a name does, or nothing in tables and spheres
+pub data BodyCases (body : BodyText) : Type 0 where
+  at_star : body_meaning body ≡ body_step BodyText-F.Star → BodyCases body
+  at_name : (name : List ℕ) → body_meaning body ≡ body_step (BodyText-F.Name name) → BodyCases body
+  at_other : ((t : Table) (n : ℕ) → body_meaning body (table t) n ≡ None) → ((m n : ℕ) → body_meaning body (sphere m) n ≡ None) → BodyCases body
+
+layer_cases : (y : BodyText-F BodyText LetterText SimplexText) → BodyCases (roll-BodyText y)
+layer_cases BodyText-F.Star = at_star (rolled BodyText-F.Star)
+layer_cases (BodyText-F.Name name) = at_name name (rolled (BodyText-F.Name name))
+layer_cases (BodyText-F.Up x) = at_other (λ t n. ap (λ f. f (table t) n) (rolled (BodyText-F.Up x))) (λ m n. ap (λ f. f (sphere m) n) (rolled (BodyText-F.Up x)))
+layer_cases (BodyText-F.Pair x y) = at_other (λ t n. ap (λ f. f (table t) n) (rolled (BodyText-F.Pair x y))) (λ m n. ap (λ f. f (sphere m) n) (rolled (BodyText-F.Pair x y)))
+layer_cases (BodyText-F.Ints list) = at_other (λ t n. ap (λ f. f (table t) n) (rolled (BodyText-F.Ints list))) (λ m n. ap (λ f. f (sphere m) n) (rolled (BodyText-F.Ints list)))
+layer_cases (BodyText-F.Word letters) = at_other (λ t n. ap (λ f. f (table t) n) (rolled (BodyText-F.Word letters))) (λ m n. ap (λ f. f (sphere m) n) (rolled (BodyText-F.Word letters)))
+
+pub cases_body : (body : BodyText) → BodyCases body
+cases_body body = subst BodyCases (roll-out-BodyText body) (layer_cases (out-BodyText body))

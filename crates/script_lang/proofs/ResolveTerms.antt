@@ -1,0 +1,39 @@
+-- Terms of a construction that is built are tables and spheres.
+use Rattle.std.proofs.Common.{◌≡◌, ℕ, ◌≤◌, List, sym, ◌∙◌, ap, subst, arith}
+use Rattle.term_lang.specs.declared.tables.Row.{Row}
+use Rattle.term_lang.specs.declared.terms.Term.{Term, roll-Term, out-Term, roll-out-Term}
+use Rattle.term_lang.specs.declared.terms.Term.TheVariants.{Table, Sphere, rolls-Table, rolls-Sphere, rolls-Product, rolls-Suspension, rolls-KZ1, rolls-Bundle, rolls-Loop, rolls-Path}
+use Rattle.term_lang.specs.declared.terms.Term.TheOpen.{Term-F}
+use Rattle.spaces.specs.Allowed.{IsTable, IsAllowed}
+use Rattle.term_lang.specs.Rows.{rows_of}
+use Rattle.term_lang.specs.SpaceOf.{space_of}
+use Rattle.term_lang.proofs.SpacesOfTerms.{space-Table, space-Sphere, space-Product, space-Suspension, space-KZ1, space-Bundle, space-Loop, space-Path}
+use Rattle.oracle_iface.specs.Built.{IsBuilt}
+
+unbuilt_layer : (y : Term-F Term) → IsBuilt (space_of (roll-Term y)) → ((rows : List Row) → roll-Term y ≡ Table rows → ⊥) → ((m : ℕ) → roll-Term y ≡ Sphere m → ⊥) → ⊥
+unbuilt_layer (Term-F.Table rows) h t s = t rows (rolls-Table rows)
+unbuilt_layer (Term-F.Sphere m) h t s = s m (rolls-Sphere m)
+unbuilt_layer (Term-F.Product a b) h t s = subst IsBuilt (ap space_of (rolls-Product a b) ∙ space-Product a b) h
+unbuilt_layer (Term-F.Suspension a) h t s = subst IsBuilt (ap space_of (rolls-Suspension a) ∙ space-Suspension a) h
+unbuilt_layer Term-F.KZ1 h t s = subst IsBuilt (ap space_of rolls-KZ1 ∙ space-KZ1) h
+unbuilt_layer (Term-F.Bundle rows values) h t s = subst IsBuilt (ap space_of (rolls-Bundle rows values) ∙ space-Bundle rows values) h
+unbuilt_layer (Term-F.Loop a) h t s = subst IsBuilt (ap space_of (rolls-Loop a) ∙ space-Loop a) h
+unbuilt_layer (Term-F.Path a) h t s = subst IsBuilt (ap space_of (rolls-Path a) ∙ space-Path a) h
+
+pub unbuilt : (x : Term) → IsBuilt (space_of x) → ((rows : List Row) → x ≡ Table rows → ⊥) → ((m : ℕ) → x ≡ Sphere m → ⊥) → ⊥
+unbuilt x h t s =
+    let e = roll-out-Term x in
+    unbuilt_layer (out-Term x) (subst (λ y. IsBuilt (space_of y)) (sym e) h) (λ rows f. t rows (sym e ∙ f)) (λ m f. s m (sym e ∙ f))
+
+-- spheres of dimension 1 to 16 and tables may be asked for
+pub sphere_allowed : (m : ℕ) → 1 ≤ m → m ≤ 16 → IsAllowed (space_of (Sphere m))
+sphere_allowed m low high = subst IsAllowed (sym (space-Sphere m)) ((low, high), omega arith)
+
+pub sphere_built : (m : ℕ) → IsBuilt (space_of (Sphere m))
+sphere_built m = subst IsBuilt (sym (space-Sphere m)) tt
+
+pub table_allowed : (rows : List Row) → IsTable (rows_of rows) → IsAllowed (space_of (Table rows))
+table_allowed rows is = subst IsAllowed (sym (space-Table rows)) (is, omega arith)
+
+pub table_built : (rows : List Row) → IsBuilt (space_of (Table rows))
+table_built rows = subst IsBuilt (sym (space-Table rows)) tt

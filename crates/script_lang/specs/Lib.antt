@@ -1,0 +1,11 @@
+pub mod Phrases
+pub mod Bytes
+pub mod Simplices
+pub mod Grammar
+pub mod Readings
+pub mod Scans
+pub mod Words
+pub mod Lines
+pub mod Meaning
+pub mod Resolved
+pub mod Examples

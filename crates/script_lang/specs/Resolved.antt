@@ -1,0 +1,45 @@
+-- What the reading of a text as a simplex of a space comes to.
+--
+-- A text that means a simplex gives the mask and the cell of its normal form, unless a word in this has more letters or an integer in it is
+-- greater than the limits allow (May, Simplicial Objects in Algebraic Topology, chapter I, on the normal form; Kenzo documentation, 1999, on
+-- geometric simplices).
+--
+--   1-0:* gives in degree 2 of the 2-sphere the mask 3 before Base, and 0-1:* gives none
+use Rattle.std.specs.Prelude.{◌≡◌, ℕ, Option, Some, None}
+use Rattle.spaces.specs.Spaces.{Space, table, sphere, product, suspension, kz1, bundle, loops, paths, kzm1, cyclic_bundle, Plain}
+use Rattle.values.specs.Sizes.{letters, integer}
+use Rattle.cells.specs.declared.cells.Cell.{Cell}
+use Rattle.cells.specs.declared.cells.Simplex.{Simplex}
+use Rattle.term_lang.specs.Quote.{quote, quote_cell}
+use Rattle.oracle_iface.specs.declared.bodies.Kind.{Kind}
+use Rattle.oracle_iface.specs.Limits.{kind_past}
+use Rattle.script_lang.specs.declared.simplices.SimplexText.{SimplexText}
+use Rattle.script_lang.specs.declared.simplices.BodyText.{BodyText, fold-BodyText}
+use Rattle.script_lang.specs.declared.resolving.ResolveFault.{ResolveFault}
+use Rattle.script_lang.specs.declared.resolving.ResolveFault.TheVariants.{NoSimplex, Over, Memory}
+use Rattle.script_lang.specs.Meaning.{BodyMeaning, LetterMeaning, Meaning, body_step, letter_step, simplex_step, meaning, mapped}
+
+-- the first of the limits on letters and integers that a simplex is past
+abbrev pub simplex_past : (a : Space) → Plain a → Option (Kind × ℕ)
+simplex_past a y = kind_past (record { letters = letters a y; integer = integer a y; terms = 0 })
+
+-- the text means a simplex of degree n within the limits, and this is its normal form
+abbrev pub IsRead : SimplexText → Space → ℕ → Simplex → Type 0
+IsRead text a n x = (y : Plain a) × (meaning text a n ≡ Some y) × (simplex_past a y ≡ None) × (x ≡ quote a n y)
+
+abbrev pub kind_and_size : Kind → ℕ → Kind × ℕ
+kind_and_size kind size = (kind, size)
+
+-- it means none, or one that is past a limit; want of memory says nothing
+abbrev pub IsFault : SimplexText → Space → ℕ → ResolveFault → Type 0
+IsFault text a n NoSimplex = meaning text a n ≡ None
+IsFault text a n (Over kind size) = (y : Plain a) × (meaning text a n ≡ Some y) × (simplex_past a y ≡ Some (kind_and_size kind size))
+IsFault text a n Memory = Unit {0}
+
+-- the simplex of degree n that a body means
+unfoldable pub body_meaning : BodyText → BodyMeaning
+body_meaning body = fold-BodyText BodyMeaning LetterMeaning Meaning body_step letter_step simplex_step body
+
+-- the cell of a body that means a non-degenerate simplex of dimension n
+abbrev pub body_cell : BodyText → Space → ℕ → Option Cell
+body_cell body a n = mapped (quote_cell a n) (body_meaning body a n)

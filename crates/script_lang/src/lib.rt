@@ -1,0 +1,26 @@
+//! The script language: its grammar, and the reader of a line.
+#![tactic(auto)]
+
+mod bytes;
+mod commands;
+mod exprs;
+mod faults;
+mod laws;
+mod lines;
+mod reader;
+#[cfg(test)]
+mod resolve_tests;
+mod resolving;
+mod scan;
+mod simplices;
+#[cfg(test)]
+mod tests;
+mod words;
+
+pub use commands::Command;
+pub use exprs::{Expr, PairText, PairTextList};
+pub use faults::LineRefused;
+pub use laws::{one_command, worked_lines};
+pub use lines::read_line;
+pub use resolving::{ResolveFault, resolve};
+pub use simplices::{BodyText, ChainText, LetterText, SimplexText, TermText, TermTextList};

@@ -1,0 +1,165 @@
+ghost use Rattle.std.specs.Prelude.{◌≡◌, ◌≤◌, false, nat_eq};
+ghost use Rattle.std.specs.Cmp.Lexicographic.{pointwise};
+ghost use Rattle.spaces.specs.Allowed.{IsAllowed};
+ghost use Rattle.term_lang.specs.SpaceOf.{space_of};
+ghost use Rattle.oracle_iface.specs.Built.{IsBuilt};
+
+use crate::resolving::{ResolveFault, resolve};
+use crate::simplices::{BodyText, SimplexText};
+use cells::{Cell, Simplex};
+use oracle_iface::Kind;
+use seqs::new_seq;
+use simp_ops::Degens;
+use std::alloc::{AllocError, Global};
+use std::process::Abort;
+use std::test::Fail;
+use term_lang::{Name, Row, RowList, Table, TableFace, Term, copy_table, name_of, table_of};
+
+fn named(rt: &impl Abort, text: &str) -> Name {
+    name_of(text.as_bytes()).expect(rt, "a name of 1 to 16 bytes")
+}
+
+fn body(rt: &impl Abort, text: &str) -> BodyText {
+    match text {
+        "*" => BodyText::Star,
+        _ => BodyText::Name(named(rt, text)),
+    }
+}
+
+fn written(
+    rt: &impl Abort,
+    alloc: Global,
+    word: &[u64],
+    text: &str,
+) -> Result<SimplexText, AllocError> {
+    let mut degens = new_seq(alloc);
+    for j in word {
+        degens.push(*j)?;
+    }
+    Ok(SimplexText {
+        degens,
+        body: body(rt, text),
+    })
+}
+
+// The table of a circle, with the vertex v and the edge e.
+fn circle(alloc: Global, v: Name, e: Name) -> Result<Table, AllocError>
+    requires { pointwise nat_eq v e ≡ false }
+{
+    let end = TableFace {
+        degens: Degens { mask: 0 },
+        row: 0,
+    };
+    let mut ends = new_seq(alloc);
+    ends.push(end)?;
+    ends.push(end)?;
+    let mut rows = RowList::new(alloc);
+    rows.push(Row {
+        name: v,
+        dim: 0,
+        faces: new_seq(alloc),
+    })?;
+    rows.push(Row {
+        name: e,
+        dim: 1,
+        faces: ends,
+    })?;
+    Ok(table_of(rows))
+}
+
+// The mask and the cell, as `3 Base`, or the name of the fault.
+fn shown(alloc: Global, t: &Term, n: u32, text: &SimplexText) -> Result<String, AllocError>
+    requires allowed { IsAllowed (space_of t.now) }
+    requires built { IsBuilt (space_of t.now) }
+    requires degree { n ≤ 16 }
+{
+    match resolve(alloc, t, n, text) {
+        Ok(x) => {
+            let mask = x.degens.mask;
+            match &x.cell {
+                Cell::Base => format!(in alloc; "{mask} Base"),
+                Cell::Top(m) => format!(in alloc; "{mask} Top {m}"),
+                Cell::Row(dim, row) => format!(in alloc; "{mask} Row {dim} {row}"),
+                _ => format!(in alloc; "{mask} another cell"),
+            }
+        }
+        Err(fault) => format!(in alloc; "{fault}"),
+    }
+}
+
+fn in_sphere(alloc: Global, m: u32, n: u32, text: &SimplexText) -> Result<String, AllocError>
+    requires low { 1 ≤ m }
+    requires high { m ≤ 16 }
+    requires degree { n ≤ 16 }
+{
+    let sphere = Term::Sphere(m);
+    shown(alloc, &sphere, n, text)
+}
+
+fn in_table(alloc: Global, table: &Table, n: u32, text: &SimplexText) -> Result<String, AllocError>
+    requires degree { n ≤ 16 }
+{
+    let _rows = table.rows();
+    let term = Term::Table(copy_table(alloc, table)?);
+    shown(alloc, &term, n, text)
+}
+
+#[test]
+fn simplices_of_the_2_sphere(rt: HostRuntime) -> Result<(), Fail> {
+    let alloc = rt.alloc();
+    for (n, word, body, expected) in [
+        (0, [].as_slice(), "*", "0 Base"),
+        (1, [].as_slice(), "*", "NoSimplex"),
+        (2, [1, 0].as_slice(), "*", "3 Base"),
+        (2, [0, 1].as_slice(), "*", "NoSimplex"),
+        (1, [1].as_slice(), "*", "NoSimplex"),
+        (2, [].as_slice(), "S2", "0 Top 2"),
+        (2, [].as_slice(), "S3", "NoSimplex"),
+        (3, [].as_slice(), "S2", "NoSimplex"),
+        (4, [2, 0].as_slice(), "S2", "5 Top 2"),
+        (16, [15, 14].as_slice(), "S2", "NoSimplex"),
+    ] {
+        let text = written(&rt, alloc, word, body)?;
+        let answer = in_sphere(alloc, 2, n, &text)?;
+        assert_eq!(rt; answer.as_str(), expected);
+    }
+    Ok(())
+}
+
+#[test]
+fn simplices_of_a_circle(rt: HostRuntime) -> Result<(), Fail> {
+    let alloc = rt.alloc();
+    let v = named(&rt, "v");
+    let e = named(&rt, "e");
+    assert!(rt; v != e);
+    let circle = circle(alloc, v, e)?;
+    for (n, word, body, expected) in [
+        (0, [].as_slice(), "v", "0 Row 0 0"),
+        (1, [].as_slice(), "v", "NoSimplex"),
+        (1, [0].as_slice(), "v", "1 Row 0 0"),
+        (1, [].as_slice(), "e", "0 Row 1 1"),
+        (2, [1].as_slice(), "e", "2 Row 1 1"),
+        (2, [2].as_slice(), "e", "NoSimplex"),
+        (0, [].as_slice(), "e", "NoSimplex"),
+        (0, [].as_slice(), "w", "NoSimplex"),
+        (0, [].as_slice(), "*", "NoSimplex"),
+    ] {
+        let text = written(&rt, alloc, word, body)?;
+        let answer = in_table(alloc, &circle, n, &text)?;
+        assert_eq!(rt; answer.as_str(), expected);
+    }
+    Ok(())
+}
+
+#[test]
+fn faults_are_shown_by_their_names(rt: HostRuntime) -> Result<(), Fail> {
+    for (fault, text) in [
+        (ResolveFault::NoSimplex, "NoSimplex"),
+        (ResolveFault::Over(Kind::Letters, 65), "Over"),
+        (ResolveFault::Memory, "Memory"),
+    ] {
+        let shown = format!(in rt.alloc(); "{fault}")?;
+        assert_eq!(rt; shown.as_str(), text);
+    }
+    Ok(())
+}

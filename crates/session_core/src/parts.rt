@@ -1,0 +1,117 @@
+// Spaces and degrees of a command.
+ghost use Rattle.std.specs.Prelude.{◌≡◌, ◌≤◌, IfOk, IfErr};
+ghost use Rattle.term_lang.specs.SpaceOf.{space_of};
+ghost use Rattle.session_core.specs.Answer.{told, is_unbuilt, table_refusal, named_space, told_table, told_sphere, told_space, told_degree};
+ghost use Rattle.session_core.specs.Telling.{Stops};
+ghost use Rattle.session_core.specs.Whole.{IsReady};
+
+use crate::session_names::SessionNames;
+use crate::stops::Stop;
+use finite_sets::{TableFault, build_table};
+use reply_text::Refusal;
+use script_lang::Expr;
+use seqs::Arc;
+use std::alloc::Global;
+use term_lang::{Name, RowTextList, Term};
+
+/// Whether a space has a construction that is not built yet.
+#[tactic(auto, using(crate::proofs::SpaceLayers::unbuilt_name, crate::proofs::SpaceLayers::unbuilt_sphere, crate::proofs::SpaceLayers::unbuilt_table, crate::proofs::SpaceLayers::unbuilt_product, crate::proofs::SpaceLayers::unbuilt_suspension, crate::proofs::SpaceLayers::unbuilt_integers, crate::proofs::SpaceLayers::unbuilt_loop, crate::proofs::SpaceLayers::unbuilt_path, crate::proofs::SpaceLayers::unbuilt_bundle))]
+pub(crate) fn is_unbuilt(e: &Expr) -> bool
+    ensures { result ≡ is_unbuilt e.now }
+{
+    match e {
+        Expr::Name(_) => false,
+        Expr::Sphere(_) => false,
+        Expr::Product(_, _) => true,
+        Expr::Suspension(_) => true,
+        Expr::KZ1 => true,
+        Expr::Loop(_) => true,
+        Expr::Path(_) => true,
+        Expr::Bundle(_, _) => true,
+        Expr::Table(_) => false,
+    }
+}
+
+/// The term of a space as it is written.
+#[tactic(auto, using(crate::proofs::SpaceLayers::space_name, crate::proofs::SpaceLayers::space_sphere, crate::proofs::SpaceLayers::space_table, crate::proofs::SpaceLayers::space_product, crate::proofs::SpaceLayers::space_suspension, crate::proofs::SpaceLayers::space_integers, crate::proofs::SpaceLayers::space_loop, crate::proofs::SpaceLayers::space_path, crate::proofs::SpaceLayers::space_bundle))]
+pub(crate) fn told_space(alloc: Global, names: &SessionNames, e: &Expr) -> Result<Arc<Term>, Stop>
+    ensures told { IfOk result (λ t. told_space names.now e.now ≡ told t) }
+    ensures ready { IfOk result (λ t. IsReady (space_of t)) }
+    ensures stops { IfErr result (λ s. Stops s (told_space names.now e.now)) }
+{
+    match e {
+        Expr::Name(name) => named_space(names, name),
+        Expr::Sphere(n) => told_sphere(alloc, *n),
+        Expr::Product(_, _) => Err(Stop::Refused(Refusal::NotBuilt)),
+        Expr::Suspension(_) => Err(Stop::Refused(Refusal::NotBuilt)),
+        Expr::KZ1 => Err(Stop::Refused(Refusal::NotBuilt)),
+        Expr::Loop(_) => Err(Stop::Refused(Refusal::NotBuilt)),
+        Expr::Path(_) => Err(Stop::Refused(Refusal::NotBuilt)),
+        Expr::Bundle(_, _) => Err(Stop::Refused(Refusal::NotBuilt)),
+        Expr::Table(rows) => told_table(alloc, rows),
+    }
+}
+
+// The space that a name stands for.
+fn named_space(names: &SessionNames, name: &Name) -> Result<Arc<Term>, Stop>
+    ensures told { IfOk result (λ t. named_space names.now name.now ≡ told t) }
+    ensures ready { IfOk result (λ t. IsReady (space_of t)) }
+    ensures stops { IfErr result (λ s. Stops s (named_space names.now name.now)) }
+{
+    match names.get(name) {
+        Some(term) => Ok(term.clone()?),
+        None => Err(Stop::Refused(Refusal::UnknownName(*name))),
+    }
+}
+
+// The sphere of a dimension from 1 to 16.
+fn told_sphere(alloc: Global, n: u64) -> Result<Arc<Term>, Stop>
+    ensures told { IfOk result (λ t. told_sphere n ≡ told t) }
+    ensures ready { IfOk result (λ t. IsReady (space_of t)) }
+    ensures stops { IfErr result (λ s. Stops s (told_sphere n)) }
+{
+    if n == 0 || n > 16 {
+        return Err(Stop::Refused(Refusal::BadSphere(n)));
+    }
+    Ok(Arc::new(alloc, Term::Sphere(n as u32))?)
+}
+
+// The table that rows mean.
+fn told_table(alloc: Global, rows: &RowTextList) -> Result<Arc<Term>, Stop>
+    ensures told { IfOk result (λ t. told_table rows.now ≡ told t) }
+    ensures ready { IfOk result (λ t. IsReady (space_of t)) }
+    ensures stops { IfErr result (λ s. Stops s (told_table rows.now)) }
+{
+    match build_table(alloc, rows) {
+        Ok(table) => Ok(Arc::new(alloc, Term::Table(table))?),
+        Err(TableFault::Memory) => Err(Stop::Memory),
+        Err(fault) => Err(Stop::Refused(table_refusal(fault))),
+    }
+}
+
+// The refusal of a table with this fault, which is not want of memory.
+fn table_refusal(fault: TableFault) -> Refusal
+    ensures { result ≡ table_refusal fault }
+{
+    match fault {
+        TableFault::NoVertex => Refusal::NoVertex,
+        TableFault::BadDimension(row) => Refusal::BadDimension(row),
+        TableFault::UnknownCell(row, face) => Refusal::UnknownCell(row, face),
+        TableFault::FaceLaw(row, i, j) => Refusal::FaceLaw(row, i, j),
+        TableFault::TooManyCells(rows) => Refusal::TooManyCells(rows),
+        TableFault::DuplicateCell(row) => Refusal::DuplicateCell(row),
+        TableFault::Memory => Refusal::NotBuilt,
+    }
+}
+
+/// A degree of at most 16.
+pub(crate) fn told_degree(n: u64) -> Result<u32, Stop>
+    ensures told { IfOk result (λ m. told_degree n ≡ told m) }
+    ensures most { IfOk result (λ m. m ≤ 16) }
+    ensures stops { IfErr result (λ s. Stops s (told_degree n)) }
+{
+    if n > 16 {
+        return Err(Stop::Refused(Refusal::Degree(n)));
+    }
+    Ok(n as u32)
+}

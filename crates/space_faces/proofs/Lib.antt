@@ -1,0 +1,9 @@
+pub mod BuiltForms
+pub mod FaceSteps
+pub mod ShownChains
+pub mod SphereFaces
+pub mod BuiltTerms
+pub mod CellSteps
+pub mod AllowedBuilt
+pub mod Degeneracies
+pub mod SphereCells

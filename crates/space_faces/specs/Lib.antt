@@ -1,0 +1,4 @@
+pub mod Built
+pub mod Boundaries
+pub mod CodeBoundaries
+pub mod Kept

@@ -1,0 +1,15 @@
+//! Faces, degeneracies and boundaries of the simplices of a space.
+#![tactic(auto)]
+
+mod boundaries;
+mod faces;
+mod laws;
+mod spheres;
+mod term_faces;
+
+pub use boundaries::boundary;
+pub use laws::quoted_chains;
+pub use term_faces::{TermFaces, faces_of};
+
+#[cfg(test)]
+mod tests;

@@ -1,0 +1,2 @@
+pub mod OneFace
+pub mod TorusCells

@@ -1,0 +1,11 @@
+//! The faces of pairs of simplices of two spaces.
+#![tactic(auto)]
+
+mod pairs;
+
+pub use pairs::SpacePair;
+
+#[cfg(test)]
+mod pair_tests;
+#[cfg(test)]
+mod tests;

@@ -1,0 +1,14 @@
+pub mod Worked
+pub mod Checks
+pub mod Readings
+pub mod Chains
+pub mod BasesLists
+pub mod BasesAsks
+pub mod BasesOrders
+pub mod BasesCells
+pub mod BasesOutcomes
+pub mod BasesDepth
+pub mod BasesSuspended
+pub mod BasesCycles
+pub mod BasesRows
+pub mod BasesWorked

@@ -1,0 +1,13 @@
+pub mod Asks
+pub mod Perturbed
+pub mod Twists
+pub mod Integers
+pub mod CyclicFlow
+pub mod Rules
+pub mod Cycles
+pub mod Values
+pub mod Sizes
+pub mod Outcomes
+pub mod Ranks
+pub mod Laws
+pub mod BaseLaws
