@@ -5,7 +5,8 @@ usage: bench/make.py KIND NUMBER..
   names N           N names, each set to a sphere and asked for its Betti numbers, and all names at the end
   renames N         N lines that set a hundred names again and again
   largest_table N   N times a table of 256 rows with 17 faces each but the first two, and questions about it
-  grid_torus A B N  the torus of A times B squares, each cut in two, and N rounds of questions about it over three fields
+  grid_torus A B N [K]  the torus of A times B squares, each cut in two, and N rounds of questions about it over three fields; K is
+                    part of the names of its cells, so that another K is another table
   graph V N         the complete graph on V vertices, and N rounds of questions
   solid N           a simplex of dimension 7 with all its faces, 255 cells, and N rounds of questions over all eight fields
   long_chains N     N lines of up to 65,536 bytes, each one chain with thousands of terms that repeat the triangles of a torus
@@ -46,10 +47,10 @@ def largest_table(count):
         yield "(express x 16 (1 c0) (-1 c253))"
 
 
-def grid_torus_rows(wide, high):
+def grid_torus_rows(wide, high, mark=""):
     """Vertices, then the edges to the right, up and across, then the two triangles of each square."""
     def at(kind, i, j):
-        return f"{kind}{i % wide}_{j % high}"
+        return f"{kind}{i % wide}_{j % high}{mark}"
     places = [(i, j) for i in range(wide) for j in range(high)]
     rows = [[at("v", i, j)] for i, j in places]
     rows += [[at("r", i, j), at("v", i + 1, j), at("v", i, j)] for i, j in places]
@@ -60,9 +61,10 @@ def grid_torus_rows(wide, high):
     return rows
 
 
-def grid_torus(wide, high, count):
-    yield table("torus", grid_torus_rows(wide, high))
-    around = " ".join(f"(1 r{i}_{high // 2})" for i in range(wide))
+def grid_torus(wide, high, count, number=None):
+    mark = "" if number is None else f"_{number}"
+    yield table("torus", grid_torus_rows(wide, high, mark))
+    around = " ".join(f"(1 r{i}_{high // 2}{mark})" for i in range(wide))
     for _ in range(count):
         for p in (2, 3, 19):
             yield f"(field {p})"
@@ -71,7 +73,7 @@ def grid_torus(wide, high, count):
             yield "(homology torus 1)"
             yield "(homology torus 2)"
             yield f"(express torus 1 {around})"
-            yield f"(express torus 0 (1 v0_0) (-1 v{wide - 1}_{high - 1}))"
+            yield f"(express torus 0 (1 v0_0{mark}) (-1 v{wide - 1}_{high - 1}{mark}))"
 
 
 def graph(vertices, count):

@@ -7,8 +7,6 @@ mod dims;
 mod laws;
 mod order;
 mod small;
-#[cfg(test)]
-mod tests;
 
 pub use cells::{Cell, IntList, Letter, LetterList, Simplex, SmallCell, SmallList};
 pub use copies::{copy_cell, copy_letters, copy_simplex, copy_small};

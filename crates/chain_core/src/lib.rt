@@ -8,6 +8,3 @@ mod sums;
 
 pub use chain::{Chain, coefficients_determine};
 pub use maps::{Degrees, LinearMap, MapFault, Source, Stops};
-
-#[cfg(test)]
-mod tests;

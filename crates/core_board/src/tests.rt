@@ -1,8 +1,4 @@
-ghost use Rattle.std.specs.Prelude.{ℕ};
-ghost use Rattle.oracle_iface.specs.declared.keys.Key.{Key};
-
 use super::*;
-use oracle_iface::{Forcer, Key, Outcome, RuleSet};
 use std::alloc::{AllocError, Global};
 use std::test::Fail;
 
@@ -63,33 +59,5 @@ fn no_events(rt: HostRuntime) -> Result<(), Fail> {
     let events = EventList::new(rt.alloc());
     let board = replay(rt.alloc(), &events)?;
     assert_eq!(rt; board.map(|b| b.state(7)), Some(None));
-    Ok(())
-}
-
-/// Rules of no key.
-struct NoRules;
-
-impl RuleSet for NoRules {
-    ghost treats = { λ (s : _) (k : Key). ⊥ };
-
-    ghost valid = { λ s k t. absurd t };
-
-    ghost lower = { λ s k q t n. absurd t };
-
-    ghost back = { λ s k q t n. absurd t };
-
-    fn rule<F: Forcer>(
-        &self,
-        _alloc: Global,
-        _key: &Key,
-        _forcer: &mut F,
-    ) -> Result<Outcome, AllocError> {
-        Err(AllocError)
-    }
-}
-
-#[test]
-fn laws_at_a_rule_set(_rt: HostRuntime) -> Result<(), Fail> {
-    interleavings(&NoRules);
     Ok(())
 }

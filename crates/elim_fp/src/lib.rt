@@ -16,6 +16,3 @@ pub use complements::complement;
 pub use kernels::{kernel, relations};
 pub use matrix::{Echelon, Matrix, matrix_of};
 pub use rows::{FpRow, FpRowList, row_of};
-
-#[cfg(test)]
-mod tests;

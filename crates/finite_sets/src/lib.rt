@@ -7,8 +7,6 @@ mod faults;
 mod laws;
 mod spheres;
 mod tables;
-#[cfg(test)]
-mod tests;
 
 pub use bases::{BaseFault, bundle_base};
 pub use faults::TableFault;

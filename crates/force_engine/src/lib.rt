@@ -10,6 +10,3 @@ mod steps;
 pub use engine::{Engine, new_engine};
 pub use laws::{settled_for_another, way_laws};
 pub use steps::Steps;
-
-#[cfg(test)]
-mod tests;

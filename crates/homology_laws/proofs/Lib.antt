@@ -8,4 +8,13 @@ pub mod Lengths
 pub mod Kernel
 pub mod TableMaps
 pub mod TableLists
+pub mod IntegersSums
+pub mod IntegersRead
+pub mod IntegersFaces
+pub mod IntegersMaps
+pub mod IntegersLists
 pub mod Worked
+pub mod SuspendedCells
+pub mod Moved
+pub mod SuspendedMaps
+pub mod SuspendedLists

@@ -32,7 +32,7 @@ use Rattle.homology_laws.proofs.CellChains.{cells_of, cell_d_of, placed, boundar
 contains-later : {A : Type 0} (x y : A) (xs : List A) → Contains xs y → Contains (x ∷ xs) y
 contains-later x y xs h = (suc h.0, let l : h.0 < length xs = h.1 in omega arith, h.2)
 
-contains-first : {A : Type 0} (x : A) (xs : List A) → Contains (x ∷ xs) x
+pub contains-first : {A : Type 0} (x : A) (xs : List A) → Contains (x ∷ xs) x
 contains-first x xs = (0, omega arith, refl)
 
 contains-filter : {A : Type 0} (test : A → Bool) (x : A) (xs : List A) → test x ≡ true → Contains xs x → Contains (filter test xs) x
@@ -122,17 +122,17 @@ Each-named : {K J : Type 0} (P : J → Type 0) (f : K → J) (c : Terms K) → E
 Each-named P f [] h = tt
 Each-named P f (u ∷ c) h = (h.0, Each-named P f c h.1)
 
-weigh-placed : {K : Type 0} (w : ℕ × K → ℕ) (n : ℕ) (c : Terms K) → weigh w (placed n c) ≡ weigh (λ y. w (n, y)) c
+pub weigh-placed : {K : Type 0} (w : ℕ × K → ℕ) (n : ℕ) (c : Terms K) → weigh w (placed n c) ≡ weigh (λ y. w (n, y)) c
 weigh-placed w n [] = refl
 weigh-placed w n (u ∷ c) = ap (λ k. u.1 * w (n, u.0) + k) (weigh-placed w n c)
 
-weigh-single : {K : Type 0} (w : K → ℕ) (x : K) → weigh w (one x) ≡ w x
+pub weigh-single : {K : Type 0} (w : K → ℕ) (x : K) → weigh w (one x) ≡ w x
 weigh-single w x = omega arith
 
-weigh-extend_one : {K J : Type 0} (w : J → ℕ) (f : K → Terms J) (x : K) → weigh w (extend f (one x)) ≡ weigh w (f x)
+pub weigh-extend_one : {K J : Type 0} (w : J → ℕ) (f : K → Terms J) (x : K) → weigh w (extend f (one x)) ≡ weigh w (f x)
 weigh-extend_one w f x = weigh-extend w f (one x) ∙ weigh-single (λ y. weigh w (f y)) x
 
-weigh-extend_nothing : {K J : Type 0} (w : J → ℕ) (c : Terms K) → weigh w (extend (λ x. []) c) ≡ 0
+pub weigh-extend_nothing : {K J : Type 0} (w : J → ℕ) (c : Terms K) → weigh w (extend (λ x. []) c) ≡ 0
 weigh-extend_nothing w [] = refl
 weigh-extend_nothing w (u ∷ c) = weigh-extend_nothing w c
 

@@ -2,11 +2,12 @@
 use Rattle.std.proofs.Common.{◌≡◌, ℕ, zero, suc, true, false, [], ◌∷◌, refl, sym, arith, true≢false}
 use Rattle.std.specs.Prelude.{nat_eq}
 use Rattle.spaces.specs.Tables.{Table}
-use Rattle.spaces.specs.Spaces.{table}
+use Rattle.spaces.specs.Spaces.{table, suspension, kz1}
 use Rattle.values.specs.Laws.{smalls}
 use Rattle.homology_laws.specs.Lists.{chain_on, numbers_at, is_boundary, rank, d_vectors, d_rank}
 use Rattle.homology_laws.specs.Pivots.{IsThrifty}
 use Rattle.homology_laws.specs.Kernel.{filling}
+use Rattle.homology_laws.specs.Suspended.{innermost}
 
 -- the chain 2 x + y
 chain_of_vector : chain_on {K = ℕ} (0 ∷ (1 ∷ [])) (2 ∷ (1 ∷ [])) ≡ (0, 2) ∷ ((1, 1) ∷ [])
@@ -56,3 +57,7 @@ e_is_none_mod_2 = refl
 -- over F_3 the cycle e is d of 2 t
 plane_filling : filling 3 (table plane) 1 (((1, ([], 1)), 1) ∷ []) (2 ∷ []) ≡ ((2, ([], 2)), 2) ∷ []
 plane_filling = refl
+
+-- K(Z,1), suspended twice
+twice_suspended : innermost (suspension (suspension kz1)) ≡ kz1
+twice_suspended = refl

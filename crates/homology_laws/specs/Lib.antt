@@ -1,3 +1,4 @@
 pub mod Pivots
 pub mod Lists
 pub mod Kernel
+pub mod Suspended

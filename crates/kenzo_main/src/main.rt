@@ -2,7 +2,7 @@
 #![tactic(auto)]
 
 use kernel_run::run_kernel;
-use port_io::{PortBox, WordList, console_port, mem_port};
+use port_io::{PortBox, WordList, console_port, file_port};
 use std::alloc::{AllocError, Global};
 use std::env;
 use std::io::ErrorKind;
@@ -19,8 +19,9 @@ fn main(rt: HostRuntime) -> ExitCode {
         let words = words_of(&rt, alloc)?;
         let mut ports: Vec<PortBox> = Vec::new(alloc);
         ports.push(Box::new(alloc, console_port(rt))?)?;
-        for _ in 0..words.len() {
-            ports.push(Box::new(alloc, mem_port(alloc, b"", 1, 0, &[], &[])?)?)?;
+        for i in 0..words.len() {
+            let word = words.get(i).unwrap();
+            ports.push(Box::new(alloc, file_port(rt, alloc, word.as_str())?)?)?;
         }
         Ok(run_kernel(&rt, alloc, &words, &mut ports).code)
     };

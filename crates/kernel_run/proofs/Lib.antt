@@ -1,10 +1,17 @@
 pub mod Answering
 pub mod Commands
+pub mod Complete
+pub mod Crossing
 pub mod Cutting
 pub mod Forced
+pub mod Moving
+pub mod NewTables
 pub mod Reading
+pub mod Settling
+pub mod Shared
 pub mod Statuses
 pub mod Treated
 pub mod Truth
 pub mod Whole
+pub mod Worked
 pub mod Writing

@@ -1,18 +1,18 @@
 -- What the program does to its ports, and the status that it ends with.
 --
--- This is the end of the thread: what `run_kernel` says of the port that it uses. Below it stand `Words` (which words
--- are a form), `Fresh` (what is written for a script) and `Truth` (what the replies say of the spaces themselves), and
--- in `session_core` what a line and a command come to (`Lines`, `Answer`).
+-- This is the end of the thread: what `run_kernel` says of the ports that it uses, on the words of one session and on words of no form; what it
+-- says on those of a batch stands in `Batch`. Below it stand `Words` (which words are a form), `Fresh` (what is written for a script) and
+-- `Truth` (what the replies say of the spaces themselves), and in `session_core` what a line and a command come to (`Lines`, `Answer`).
 --
--- Main definitions: `OneSession`, `ShowsUsage`.
+-- Main definitions: `OneSession`, `ShowsUsage`, `unused`.
 -- Worked value: one session whose console has "(names)\n" and no fault writes "names\n", with status 0.
-use Rattle.std.specs.Prelude.{◌≡◌, ◌⊎◌, ℕ, ◌≤◌, ◌<◌, List, ◌∷◌, ◌++◌, take, length, IfSome}
+use Rattle.std.specs.Prelude.{◌≡◌, ◌⊎◌, ℕ, ◌≤◌, ◌<◌, List, ◌∷◌, ◌++◌, take, drop, length, IfSome, if◌then◌else◌}
 use Rattle.std.specs.Io.KnownBytes.{append_known, IsAtEnd}
 use Rattle.port_io.specs.Ports.{PortState, Rose, raised}
 use Rattle.kernel_run.specs.Fresh.{fresh}
 use Rattle.kernel_run.specs.Truth.{AreHomologyLists}
 use Rattle.kernel_run.specs.Session.{ReadsNothing}
-use Rattle.kernel_run.specs.Words.{usage}
+use Rattle.kernel_run.specs.Words.{usage, is_batch}
 
 -- a count of faults of this port rose
 abbrev pub HasFault : PortState → PortState → Type 0
@@ -51,3 +51,7 @@ pub record ShowsUsage (before after : PortState) : Type 0 where
 abbrev pub AtConsole : (PortState → PortState → Type 0) → List PortState → List PortState → Type 0
 AtConsole P (a ∷ olds) (b ∷ news) = P a b
 AtConsole P olds news = ⊥
+
+-- the ports that the words do not use: in a batch the one of the word `batch`, and else all but the console
+abbrev pub unused : {P : Type 0} → List (List ℕ) → List P → List P
+unused words ports = if is_batch words then take 1 (drop 1 ports) else drop 1 ports

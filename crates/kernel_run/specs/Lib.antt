@@ -1,10 +1,15 @@
+pub mod Batch
 pub mod Counts
+pub mod Forcing
 pub mod Fresh
+pub mod Jobs
 pub mod Kernel
 pub mod Lines
 pub mod Outcome
 pub mod Progress
 pub mod Session
+pub mod Settled
+pub mod Summary
 pub mod Treated
 pub mod Truth
 pub mod Words

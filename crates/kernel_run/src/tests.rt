@@ -1,12 +1,20 @@
 // What the program does to the ports that it is handed, over memory ports.
+ghost use Rattle.memo_book.specs.Histories.{front};
+ghost use Rattle.kernel_run.specs.Settled.{HoldsNone};
+
 use super::*;
 use crate::examples::EXAMPLES;
-use port_io::{PortBox, WordList, mem_port};
+use fp_field::Prime;
+use memo_book::{Book, new_book};
+use oracle_iface::{Key, Op, Place};
+use port_io::{Port, PortBox, WordList, mem_port};
+use seqs::Arc;
 use std::alloc::{AllocError, Global};
 use std::process::Abort;
 use std::sync::Wait;
 use std::test::Fail;
 use std::thread::Threads;
+use term_lang::{Cell, SmallCell, Term};
 
 // The words of a command line.
 fn words_of(alloc: Global, texts: &[&str]) -> Result<WordList, AllocError> {
@@ -36,6 +44,12 @@ fn check_script<R: Abort + Threads + Wait + Sync>(
     assert_eq!(rt; status.code, 0, "at {input}");
     assert_eq!(rt; ports[0].output(), Some(output.as_bytes()), "at {input}");
     Ok(())
+}
+
+// A session over a table of its own.
+fn session_alone<P: Port>(alloc: Global, port: &mut P) -> SessionReport {
+    let mut book = new_book(alloc);
+    run_session(alloc, port, &mut book)
 }
 
 #[test]
@@ -162,30 +176,10 @@ fn a_script_that_is_too_long_gives_status_4(rt: HostRuntime) -> Result<(), Fail>
 }
 
 #[test]
-fn other_words_give_the_usage_line_and_status_2(rt: HostRuntime) -> Result<(), Fail> {
-    let alloc = rt.alloc();
-    let usage = b"usage: kenzo_main session | batch SCRIPT.. | sweep N\n".as_slice();
-    let rows: [&[&str]; 4] = [&["batch"], &["batch", "a", "a"], &["sweep", "01"], &[]];
-    for row in rows {
-        let words = words_of(alloc, row)?;
-        let mut ports: Vec<PortBox> = Vec::new(alloc);
-        ports.push(Box::new(alloc, mem_port(alloc, b"(names)\n", 16, 4096, &[], &[])?)?)?;
-        for _ in 0..words.len() {
-            ports.push(Box::new(alloc, mem_port(alloc, b"", 1, 0, &[], &[])?)?)?;
-        }
-        assert_eq!(rt; ports.len().checked_sub(1), Some(words.len()));
-        let status = run_kernel(&rt, alloc, &words, &mut ports);
-        assert_eq!(rt; status.code, 2);
-        assert_eq!(rt; ports[0].output(), Some(usage));
-    }
-    Ok(())
-}
-
-#[test]
 fn a_session_reports_its_replies_and_errors(rt: HostRuntime) -> Result<(), Fail> {
     let alloc = rt.alloc();
     let mut port = mem_port(alloc, b"(names)\n\n(field 4)\n", 16, 4096, &[], &[])?;
-    let report = run_session(alloc, &mut port);
+    let report = session_alone(alloc, &mut port);
     assert_eq!(rt;
         report,
         SessionReport {
@@ -205,8 +199,54 @@ fn each_read_has_a_buffer_of_4096_bytes(rt: HostRuntime) -> Result<(), Fail> {
     // 4096, 4096, 1808 and 0 bytes: there are four reads, and no fifth.
     for (bad_read, end) in [(4, End::ReadFault), (5, End::Finished)] {
         let mut port = mem_port(alloc, &input, 1_000_000, 16, &[bad_read], &[])?;
-        let report = run_session(alloc, &mut port);
+        let report = session_alone(alloc, &mut port);
         assert_eq!(rt; report.end, end);
     }
+    Ok(())
+}
+
+// A session that asks for the Betti numbers of the circle, over a table.
+fn ask_for_the_circle(alloc: Global, book: &mut Book) -> Result<SessionReport, AllocError>
+    requires { HoldsNone 0 (λ k. 0) (front book.old) }
+    ensures { HoldsNone 0 (λ k. 0) (front book.new) }
+{
+    let mut port = mem_port(alloc, b"(betti (sphere 1) 0 1)\n", 16, 4096, &[], &[])?;
+    Ok(run_session(alloc, &mut port, book))
+}
+
+// Whether a key of the circle over the field of two elements is published.
+fn is_published(alloc: Global, book: &Book, op: Op, place: Place) -> Result<bool, AllocError> {
+    let term = Arc::new(alloc, Term::Sphere(1))?;
+    let key = Key {
+        term,
+        prime: Prime::Two,
+        op,
+        place,
+    };
+    Ok(book.look(&key)?.is_some())
+}
+
+#[test]
+fn two_sessions_use_one_table(rt: HostRuntime) -> Result<(), Fail> {
+    let alloc = rt.alloc();
+    let mut book = new_book(alloc);
+    let first = ask_for_the_circle(alloc, &mut book)?;
+    let second = ask_for_the_circle(alloc, &mut book)?;
+    assert_eq!(rt; (first.end, first.replies), (End::Finished, 1));
+    assert_eq!(rt; (second.end, second.replies), (End::Finished, 1));
+    let rows = [
+        (Op::Basis, Place::Degree(0), true),
+        (Op::Basis, Place::Degree(1), true),
+        (Op::Basis, Place::Degree(2), true),
+        (Op::Basis, Place::Degree(3), false),
+        (Op::SmallD, Place::Small(SmallCell::One(Cell::Base)), true),
+        (Op::SmallD, Place::Small(SmallCell::One(Cell::Top(1))), true),
+        (Op::Cycles, Place::Degree(1), false),
+    ];
+    for (op, place, published) in rows {
+        assert_eq!(rt; is_published(alloc, &book, op, place)?, published);
+    }
+    // Five keys, each claimed once and published once.
+    assert_eq!(rt; (book.keys().len(), book.journal().len()), (5, 10));
     Ok(())
 }

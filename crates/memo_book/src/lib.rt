@@ -8,6 +8,3 @@ mod parts;
 
 pub use book::{Book, State};
 pub use calls::new_book;
-
-#[cfg(test)]
-mod tests;

@@ -20,6 +20,3 @@ pub use reduction::{MapF, MapG, MapH, Reduction};
 pub use shifted::Shifted;
 pub use sides::Side;
 pub use summed::Summed;
-
-#[cfg(test)]
-mod tests;

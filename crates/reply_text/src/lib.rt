@@ -13,8 +13,6 @@ mod refusals;
 mod replies;
 mod reply_texts;
 mod rows;
-#[cfg(test)]
-mod tests;
 
 pub use lists::{NameList, NumberList};
 pub use pieces::ByteList;

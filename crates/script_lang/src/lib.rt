@@ -13,8 +13,6 @@ mod resolve_tests;
 mod resolving;
 mod scan;
 mod simplices;
-#[cfg(test)]
-mod tests;
 mod words;
 
 pub use commands::Command;

@@ -2,8 +2,6 @@
 #![tactic(auto)]
 
 mod check;
-#[cfg(test)]
-mod check_tests;
 mod faults;
 mod laws;
 mod measures;
@@ -13,8 +11,6 @@ mod row_faces;
 mod simplicial;
 mod tables;
 mod terms;
-#[cfg(test)]
-mod tests;
 mod texts;
 
 pub use cells::{

@@ -1,6 +1,10 @@
 use Rattle.std.proofs.Common.{rules}
+use Rattle.kernel_run.proofs.NewTables.{new_holds_none}
 use Rattle.kernel_run.proofs.Statuses.{fresh_output}
 use Rattle.kernel_run.proofs.kernel.one_session.Goals as goal
+
+pub run_session-report-requires : goal.run_session-report-requires
+run_session-report-requires g c = record { held = new_holds_none c.new_book-book.result c.new_book-book.ensures.journal }
 
 pub returns : goal.returns
 returns g c =
