@@ -21,7 +21,7 @@ use Rattle.ez_flow.specs.CodeMaps.{left_cell_degree, on_cells}
 use Rattle.ez_flow.proofs.CodeTerms as CT
 use Rattle.ez_flow.proofs.PairCells.{weight-pair}
 use Rattle.ez_maps.specs.Tensors.{tensor_cmp, IsTensorOf, tensor_form, tensor_for}
-use Rattle.ez_maps.specs.declared.tensors.Tensor.{Tensor}
+use Rattle.tensor_red.specs.declared.tensors.Tensor.{Tensor}
 use Rattle.ez_maps.proofs.CutSteps.{kept}
 use Rattle.ez_maps.proofs.Kept.{aw-has}
 use Rattle.ez_maps.proofs.TensorForms.{HasT, key-left, told-tensors}

@@ -27,7 +27,7 @@ use Rattle.ez_flow.proofs.CodeTerms as CT
 use Rattle.ez_flow.proofs.Pushes.{weigh-on-keys}
 use Rattle.ez_maps.specs.Tensors.{bare, IsTensorOf, tensor_form, on_tensors}
 use Rattle.ez_maps.specs.Words.{shuffled_from}
-use Rattle.ez_maps.specs.declared.tensors.Tensor.{Tensor}
+use Rattle.tensor_red.specs.declared.tensors.Tensor.{Tensor}
 use Rattle.ez_maps.proofs.Kept.{HasPair, eml-has}
 use Rattle.ez_maps.proofs.TensorForms.{form-has, form-tensor}
 

@@ -31,7 +31,7 @@ use Rattle.ez_flow.proofs.PairCells.{pair-with, split-pair}
 use Rattle.ez_maps.specs.Tensors.{tensor_cmp, IsTensorOf, tensor_for, on_tensors}
 use Rattle.ez_maps.specs.TensorOrder.{tensor_total, one_tensor}
 use Rattle.ez_maps.specs.PairMaps.{flow_below, pair_maps}
-use Rattle.ez_maps.specs.declared.tensors.Tensor.{Tensor}
+use Rattle.tensor_red.specs.declared.tensors.Tensor.{Tensor}
 use Rattle.ez_maps.proofs.Kept.{HasPair, HasTensor, aw-has, eml-has, tensor-d-has}
 use Rattle.ez_maps.proofs.TensorForms as TF
 use Rattle.ez_maps.proofs.Transferred.{Tells, Reads, transferred}

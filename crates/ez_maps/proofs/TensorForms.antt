@@ -27,7 +27,7 @@ use Rattle.ez_laws.specs.Sides.{on_keys}
 use Rattle.ez_maps.specs.Tensors.{bare, tensor_cmp, IsTensorOf, tensor_form, tensor_for}
 use Rattle.ez_maps.specs.TensorOrder.{tensor_total, one_tensor}
 use Rattle.ez_maps.proofs.Kept.{HasTensor}
-use Rattle.ez_maps.specs.declared.tensors.Tensor.{Tensor}
+use Rattle.tensor_red.specs.declared.tensors.Tensor.{Tensor}
 
 pub no-ones : count_ones 0 ≡ 0
 no-ones = ap count_ones (let e : 0 ≡ 0 % 2 ^ 0 = omega arith in e) ∙ count-ones 0 0

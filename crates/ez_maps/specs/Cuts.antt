@@ -5,7 +5,7 @@ use Rattle.std.specs.Prelude.{◌==◌, cond, List, [], ◌∷◌}
 use Rattle.fp_field.specs.declared.element.Fp.{Fp}
 use Rattle.cells.specs.declared.cells.Cell.{Cell}
 use Rattle.cells.specs.declared.cells.Simplex.{Simplex}
-use Rattle.ez_maps.specs.declared.tensors.Tensor.{Tensor}
+use Rattle.tensor_red.specs.declared.tensors.Tensor.{Tensor}
 
 -- the tensor of two simplices with this number, unless the left one is degenerate
 abbrev pub cut_term : Simplex → Simplex → Fp → List (Tensor Cell Cell × Fp)

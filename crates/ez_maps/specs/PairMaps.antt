@@ -18,7 +18,7 @@ use Rattle.ez_laws.specs.Complexes.{tensor_d}
 use Rattle.ez_flow.specs.Parts.{IsPairOf}
 use Rattle.ez_flow.specs.CodeMaps.{cell_for, on_cells}
 use Rattle.ez_maps.specs.Tensors.{tensor_cmp, IsTensorOf, tensor_for, on_tensors}
-use Rattle.ez_maps.specs.declared.tensors.Tensor.{Tensor}
+use Rattle.tensor_red.specs.declared.tensors.Tensor.{Tensor}
 
 -- the flow below a degree
 abbrev pub flow_below : {K J : Type 0} → ℕ → ℕ → Linear K → Ordered J → Pair K J → Terms (Pair K J)

@@ -9,7 +9,7 @@ use Rattle.cells.specs.Laws.{cell_total}
 use Rattle.cells.proofs.OneKey.{one_cell}
 use Rattle.spaces.proofs.Orders.{then-first, then-second}
 use Rattle.ez_maps.specs.Tensors.{tensor_cmp}
-use Rattle.ez_maps.specs.declared.tensors.Tensor.{Tensor}
+use Rattle.tensor_red.specs.declared.tensors.Tensor.{Tensor}
 
 pub one_tensor : (s t : Tensor Cell Cell) → tensor_cmp s t ≡ Equal → s ≡ t
 one_tensor s t e =

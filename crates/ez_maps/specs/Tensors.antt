@@ -15,7 +15,7 @@ use Rattle.cells.specs.declared.cells.Simplex.{Simplex}
 use Rattle.cells.specs.Dim.{dim_of}
 use Rattle.cells.specs.Order.{cell_cmp}
 use Rattle.ez_laws.specs.Sides.{on_keys}
-use Rattle.ez_maps.specs.declared.tensors.Tensor.{Tensor}
+use Rattle.tensor_red.specs.declared.tensors.Tensor.{Tensor}
 
 -- the simplex of a cell, without degeneracies
 abbrev pub bare : Cell → Simplex

@@ -13,12 +13,12 @@ ghost use Rattle.ez_flow.specs.CodeMaps.{on_cells, left_cell_degree};
 ghost use Rattle.ez_maps.specs.Tensors.{tensor_cmp, IsTensorOf, tensor_form, tensor_for};
 ghost use Rattle.ez_maps.specs.Cuts.{cut_term};
 
-use crate::tensors::Tensor;
 use cells::{Cell, Simplex, copy_cell, copy_simplex};
 use chain_core::Chain;
 use ez_flow::{FlowFaces, parts};
 use fp_field::{Fp, Prime, mul};
 use std::alloc::{AllocError, Global};
+use tensor_red::Tensor;
 
 /// Pushes the tensor of the cells of two simplices with the coefficient c, where the left one is not
 /// degenerate.

@@ -7,10 +7,9 @@ mod pair_faces;
 mod pairs;
 mod shuffles;
 mod tensor_faces;
-mod tensors;
 
 pub use fronts::aw;
 pub use laws::pairs_meet;
 pub use pairs::Pairs;
 pub use shuffles::eml;
-pub use tensors::Tensor;
+pub use tensor_red::Tensor;

@@ -15,7 +15,6 @@ use crate::fronts::aw;
 use crate::pair_faces::pair_boundary;
 use crate::shuffles::eml;
 use crate::tensor_faces::tensor_boundary;
-use crate::tensors::Tensor;
 use cells::{Cell, dim};
 use chain_core::{Chain, Source};
 use ez_flow::{FlowFaces, flow, parts};
@@ -23,6 +22,7 @@ use fp_field as field;
 use fp_field::Prime;
 use reduct_laws::Reduction;
 use std::alloc::{AllocError, Global};
+use tensor_red::Tensor;
 
 /// The reduction of the complex of pairs of left and right simplices to the tensor complex, by
 /// Alexander-Whitney, Eilenberg-Mac Lane and the flow of the vector field (Eilenberg and Mac Lane 1953;

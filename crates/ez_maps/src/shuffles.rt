@@ -17,13 +17,13 @@ ghost use Rattle.ez_flow.specs.CodeMaps.{cell_for, left_cell_degree};
 ghost use Rattle.ez_maps.specs.Tensors.{IsTensorOf, tensor_form, on_tensors};
 ghost use Rattle.ez_maps.specs.Words.{AreApart, shuffled_from, left_first, right_first};
 
-use crate::tensors::Tensor;
 use cells::{Cell, Simplex, copy_cell, dim};
 use chain_core::Chain;
 use ez_flow::{FlowFaces, pair_cell, signed};
 use fp_field::{Fp, Prime};
 use simp_ops::Degens;
 use std::alloc::{AllocError, Global};
+use tensor_red::Tensor;
 
 /// The shuffles that begin with given steps: the first `place` steps are read into the masks of the two
 /// parts and the sign, and `lefts` steps of the left part alone and `rights` of the right part alone are

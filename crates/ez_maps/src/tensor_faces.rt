@@ -12,13 +12,13 @@ ghost use Rattle.ez_laws.specs.Complexes.{left_faces, right_faces, left_d, right
 ghost use Rattle.ez_flow.specs.Parts.{left_of, left_in};
 ghost use Rattle.ez_maps.specs.Tensors.{bare, tensor_cmp, IsTensorOf, tensor_form, tensor_for, on_tensors};
 
-use crate::tensors::Tensor;
 use cells::{Cell, Simplex, copy_cell, dim};
 use chain_core::Chain;
 use ez_flow::{FlowFaces, signed};
 use fp_field::{Fp, Prime, mul};
 use simp_ops::Degens;
 use std::alloc::{AllocError, Global};
+use tensor_red::Tensor;
 
 /// The simplex of a cell, without degeneracies.
 fn bare_simplex(alloc: Global, c: &Cell) -> Result<Simplex, AllocError>

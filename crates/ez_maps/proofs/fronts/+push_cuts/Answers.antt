@@ -9,7 +9,7 @@ use Rattle.chain_core.specs.Formal.{numbers}
 use Rattle.ez_flow.specs.Parts.{left_of, left_in}
 use Rattle.cells.specs.declared.cells.Cell.{Cell}
 use Rattle.ez_maps.specs.Tensors.{tensor_form}
-use Rattle.ez_maps.specs.declared.tensors.Tensor.{Tensor}
+use Rattle.tensor_red.specs.declared.tensors.Tensor.{Tensor}
 use Rattle.ez_maps.proofs.CutSteps.{kept, cut-step, back-step, whole-front, lower-front}
 use Rattle.ez_maps.proofs.fronts.+push_cuts.Goals as goal
 

@@ -12,7 +12,7 @@ use Rattle.ez_flow.specs.Parts.{left_of, left_in}
 use Rattle.ez_flow.proofs.Bits.{eq_of}
 use Rattle.ez_flow.proofs.Pushes.{each-push, all-push, weigh-push}
 use Rattle.ez_maps.specs.Tensors.{IsTensorOf, tensor_form}
-use Rattle.ez_maps.specs.declared.tensors.Tensor.{Tensor}
+use Rattle.tensor_red.specs.declared.tensors.Tensor.{Tensor}
 use Rattle.ez_maps.proofs.CutSteps.{pushed-if, taken-more, no-weights}
 use Rattle.ez_maps.proofs.TensorForms.{cells-tensor, pushed-weight, right-test}
 use Rattle.ez_maps.proofs.fronts.push_tensors.Goals as goal

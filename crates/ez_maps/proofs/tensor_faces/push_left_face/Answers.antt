@@ -11,7 +11,7 @@ use Rattle.ez_flow.specs.Parts.{left_of, left_in}
 use Rattle.ez_flow.proofs.Bits.{eq_of}
 use Rattle.ez_flow.proofs.Pushes.{each-pop, each-push, all-push, moved, none-left, all-moved}
 use Rattle.ez_maps.specs.Tensors.{IsTensorOf, tensor_form}
-use Rattle.ez_maps.specs.declared.tensors.Tensor.{Tensor}
+use Rattle.tensor_red.specs.declared.tensors.Tensor.{Tensor}
 use Rattle.ez_maps.proofs.CutSteps.{kept}
 use Rattle.ez_maps.proofs.TensorForms.{cells-tensor, pushed-weight}
 use Rattle.ez_maps.proofs.tensor_faces.push_left_face.Goals as goal

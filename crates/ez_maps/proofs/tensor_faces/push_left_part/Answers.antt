@@ -11,7 +11,7 @@ use Rattle.chain_core.specs.Formal.{numbers}
 use Rattle.ez_laws.specs.Complexes.{left_d}
 use Rattle.ez_flow.specs.Parts.{left_of, left_in}
 use Rattle.ez_maps.specs.Tensors.{IsTensorOf, tensor_form}
-use Rattle.ez_maps.specs.declared.tensors.Tensor.{Tensor}
+use Rattle.tensor_red.specs.declared.tensors.Tensor.{Tensor}
 use Rattle.ez_maps.proofs.CutSteps.{kept}
 use Rattle.ez_maps.proofs.TensorSteps.{positive, no-left}
 use Rattle.ez_maps.proofs.tensor_faces.push_left_part.Goals as goal

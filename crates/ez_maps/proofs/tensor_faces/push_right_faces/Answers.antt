@@ -10,7 +10,7 @@ use Rattle.chain_core.specs.Formal.{numbers}
 use Rattle.ez_laws.specs.Complexes.{right_faces}
 use Rattle.ez_flow.specs.Parts.{left_of, left_in}
 use Rattle.ez_maps.specs.Tensors.{tensor_form}
-use Rattle.ez_maps.specs.declared.tensors.Tensor.{Tensor}
+use Rattle.tensor_red.specs.declared.tensors.Tensor.{Tensor}
 use Rattle.ez_maps.proofs.CutSteps.{kept}
 use Rattle.ez_maps.proofs.TensorSteps.{right-added}
 use Rattle.ez_maps.proofs.tensor_faces.push_right_faces.Goals as goal

@@ -11,7 +11,7 @@ use Rattle.chain_core.specs.Formal.{numbers}
 use Rattle.ez_laws.specs.Complexes.{tensor_d}
 use Rattle.ez_flow.specs.Parts.{left_of, left_in}
 use Rattle.ez_maps.specs.Tensors.{bare, tensor_cmp, tensor_form, tensor_for, on_tensors}
-use Rattle.ez_maps.specs.declared.tensors.Tensor.{Tensor}
+use Rattle.tensor_red.specs.declared.tensors.Tensor.{Tensor}
 use Rattle.ez_maps.proofs.Oks.{if_ok}
 use Rattle.ez_maps.specs.TensorOrder.{one_tensor}
 use Rattle.ez_maps.proofs.TensorForms.{told-tensors}

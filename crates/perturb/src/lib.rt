@@ -1,0 +1,15 @@
+//! Perturbed reductions over F_p: what becomes of a reduction when something is added to the differential of its big complex (the basic
+//! perturbation lemma).
+#![tactic(auto)]
+
+mod delta;
+mod laws;
+mod perturbed;
+mod series;
+
+pub use delta::{MapDelta, Perturb};
+pub use laws::perturbed_meets;
+pub use perturbed::{perturbed_d, perturbed_f, perturbed_g, perturbed_h};
+
+#[cfg(test)]
+mod tests;

@@ -1,0 +1,9 @@
+pub mod Doubles
+pub mod Signs
+pub mod Grids
+pub mod SixOfParts
+pub mod PairKeys
+pub mod TensorMeets
+pub mod AlikeChains
+pub mod RowSteps
+pub mod TensorPairs

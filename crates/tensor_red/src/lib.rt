@@ -1,0 +1,14 @@
+//! Tensor products of chains and of reductions.
+#![tactic(auto)]
+
+mod laws;
+mod products;
+mod reduction;
+mod tensors;
+#[cfg(test)]
+mod tests;
+
+pub use laws::tensor_meets;
+pub use products::product_of;
+pub use reduction::{TensorReduction, tensor_reduction};
+pub use tensors::Tensor;

@@ -1,0 +1,4 @@
+pub mod TwistedComplexes
+pub mod LeftDegrees
+pub mod TwistedProducts
+pub mod Assembled
