@@ -9,6 +9,9 @@ usage: bench/make.py KIND NUMBER..
                     part of the names of its cells, so that another K is another table
   graph V N         the complete graph on V vertices, and N rounds of questions
   solid N           a simplex of dimension 7 with all its faces, 255 cells, and N rounds of questions over all eight fields
+  homotopy N        a line that asks for the filling of |N| - N |1| in K(Z,1), which has N - 1 terms
+  lists N           N cycles of lists of two integers in K(Z,1), with four new keys of the table of results each
+  suspensions N     a table of one vertex and 48 more cells, suspended seven times, and N rounds of questions over three fields
   long_chains N     N lines of up to 65,536 bytes, each one chain with thousands of terms that repeat the triangles of a torus
   long_refusals N   N lines of up to 65,536 bytes that are refused at their end
 """
@@ -100,6 +103,34 @@ def solid(count):
             yield "(homology solid 0)"
 
 
+def homotopy(number):
+    yield "(field 7)"
+    yield f"(express (k-z-1) 1 (1 |{number}|))"
+
+
+def lists(count):
+    for b in range(2, count + 2):
+        # d of |1|1|b|
+        yield f"(express (k-z-1) 2 (1 |1|{b}|) (-1 |2|{b}|) (1 |1|{b + 1}|) (-1 |1|1|))"
+
+
+def suspensions(count):
+    rows = [["v"]]
+    for k in range(24):
+        rows += [[f"e{k}", "v", "v"], [f"t{k}", f"e{k}", "0:v", f"e{k}"]]
+    yield table("s0", rows)
+    for k in range(7):
+        yield f"(setf s{k + 1} (suspension s{k}))"
+    top = "^" * 7
+    for _ in range(count):
+        for p in (2, 3, 19):
+            yield f"(field {p})"
+            yield "(betti s7 0 10)"
+            yield "(homology s7 8)"
+            yield f"(boundary s7 9 (1 {top}t0) (2 {top}t23))"
+            yield f"(express s7 8 (2 {top}e0))"
+
+
 def filled(start, parts, end):
     """The start, as many parts as fit in a line, and the end."""
     line, room = [start], LINE - len(start) - len(end)
@@ -135,7 +166,7 @@ def long_refusals(count):
         yield lines[k % len(lines)]
 
 
-KINDS = {kind.__name__: kind for kind in (names, renames, largest_table, grid_torus, graph, solid, long_chains, long_refusals)}
+KINDS = {kind.__name__: kind for kind in (names, renames, largest_table, grid_torus, graph, solid, homotopy, lists, suspensions, long_chains, long_refusals)}
 
 
 def main():

@@ -1,5 +1,5 @@
--- The rules of tables and spheres are rules for all keys that a session asks for.
-use Rattle.oracle_iface.specs.Built.{IsTreated}
+-- Rules for all valid keys about built spaces are rules for all keys that a session asks for.
+use Rattle.normal_forms.specs.Built.{IsTreated}
 use Rattle.kernel_run.specs.Treated.{TreatsAll}
 
 pub treats_all : TreatsAll IsTreated

@@ -1,5 +1,5 @@
 // The sessions of examples/ and of the documents: name, what is typed, what is printed. Written by examples/embed.
-pub const EXAMPLES: [(&str, &str, &str); 29] = [
+pub const EXAMPLES: [(&str, &str, &str); 33] = [
     (
         "complex_projective_plane",
         "; The complex projective plane with 9 vertices, found by Kuehnel: 9, 36, 84, 90 and 36 simplices, 255 in all.
@@ -133,6 +133,87 @@ coefficients 0
 chain (2 e14)
 error not-a-cycle (2 v1)
 betti 10 0
+",
+    ),
+    (
+        "k_z_1",
+        "; K(Z,1), the nerve of the integers: a simplex of degree n is a list of n integers, and one with a 0 is degenerate. The face d_0 drops the
+; first integer, d_n the last, and each other face adds two neighbours. So there are infinitely many cells in each positive degree.
+(betti (k-z-1) 0 4)
+(homology (k-z-1) 0)
+(homology (k-z-1) 1)
+(homology (k-z-1) 2)
+; Faces: d_0, d_1 and d_2 of |2|3| are |3|, |5| and |2|; a face with a 0 counts as 0.
+(setf k (k-z-1))
+(field 7)
+(boundary k 2 (1 |2|3|))
+(boundary k 3 (1 |1|-1|2|))
+(boundary k 1 (3 |5|))
+(boundary k 2 (1 |0|3|) (1 |3|0|) (1 0:|4|))
+; The loop |5| is five times the loop |1|, up to a boundary; |-2| is -2 times it.
+(express k 1 (1 |5|))
+(express k 1 (1 |-2|))
+(express k 1 (1 |3|) (1 |4|) (-1 |7|))
+; A cycle of degree 2 is a boundary, and a chain that is none is refused.
+(express k 2 (1 |3|1|) (-1 |5|1|) (1 |2|4|) (-1 |2|3|))
+(express k 2 (1 |2|3|))
+(express k 0 (3 |) (2 |))
+(field 2)
+(express k 1 (1 |5|))
+(express k 1 (1 |4|))
+; The degree counts the integers, the 0s among them, and indices of degeneracies fall.
+(boundary k 1 (1 |2|3|))
+(boundary k 2 (1 |2|3|) (1 |2|))
+(boundary k 2 (1 *))
+(boundary k 3 (1 0-1:|5|))
+; Integers have at most 100,000 in magnitude, in what is typed and in what is printed, and a chain at most 50,000 terms.
+(boundary k 1 (1 |100000|))
+(boundary k 1 (1 |100001|))
+(boundary k 2 (1 |0|-100001|))
+(boundary k 2 (1 |100000|1|))
+(boundary k 2 (1 |100001|))
+(express k 1 (1 |60000|))
+(names)
+",
+        "betti 1 1 0 0 0
+homology 1
+(1 |)
+homology 1
+(1 |1|)
+homology 0
+defined k
+field 7
+chain (1 |2|) (1 |3|) (6 |5|)
+chain (1 |-1|2|) (6 |1|-1|) (1 |1|1|)
+chain 0
+chain 0
+coefficients 5
+chain (6 |1|1|) (6 |1|2|) (6 |1|3|) (6 |1|4|)
+coefficients 5
+chain (1 |1|-2|) (1 |1|-1|)
+coefficients 0
+chain (6 |1|1|) (6 |1|2|) (1 |1|4|) (1 |1|5|) (1 |1|6|)
+coefficients
+chain (1 |1|1|3|) (6 |1|1|4|) (1 |1|3|1|) (1 |1|4|1|)
+error not-a-cycle (1 |2|)
+coefficients 5
+chain 0
+field 2
+coefficients 1
+chain (1 |1|1|) (1 |1|2|) (1 |1|3|) (1 |1|4|)
+coefficients 0
+chain (1 |1|1|) (1 |1|2|) (1 |1|3|)
+error simplex 1
+error simplex 2
+error simplex 1
+error simplex 1
+chain 0
+error over integer 100001
+error over integer 100001
+error over integer 100001
+error simplex 1
+error over terms 59999
+names k
 ",
     ),
     (
@@ -486,8 +567,8 @@ chain (9 e4)
 (names) (names)
 ; A construction that is not built yet, before every other fault:
 (betti (crts-prdc (sphere 1) (sphere 1)) 0 2)
-(setf k (k-z-1))
-(setf w (suspension (sphere 0)))
+(setf k (suspension (loop-space (k-z-1))))
+(setf w (suspension (path-space (sphere 0))))
 (homology (loop-space nowhere) 99)
 (betti (path-space (sphere 2)) 0 3)
 (homology (bundle (sphere 2) (S2 1)) 3)
@@ -701,6 +782,128 @@ chain 0
 coefficients 3
 chain 0
 chain 0
+",
+    ),
+    (
+        "suspensions",
+        "; The suspension of a space with one vertex: its base *, and a cell ^x one degree up for each cell x of positive dimension. Homology is not
+; reduced: degree 0 has the class of the base, and degree 1 has none.
+(betti (suspension (k-z-1)) 0 3)
+(homology (suspension (k-z-1)) 0)
+(homology (suspension (k-z-1)) 2)
+(betti (suspension (sphere 2)) 0 4)
+(homology (suspension (sphere 2)) 3)
+(betti (suspension (suspension (k-z-1))) 0 4)
+(homology (suspension (suspension (k-z-1))) 3)
+; The projective plane and its suspension: over F_3 twice the loop bounds, so the loop does.
+(setf rp2 (table (v) (e v v) (t e 0:v e)))
+(setf s (suspension rp2))
+(betti s 0 3)
+(homology s 3)
+(boundary s 3 (1 ^t))
+(field 3)
+(betti s 0 3)
+(boundary s 3 (1 ^t))
+(express s 2 (1 ^e))
+(express s 3 (1 ^t))
+; Lists of integers, suspended: d_i of ^x is ^ of d_(i-1) of x, and d_0 is the base.
+(field 7)
+(setf k (suspension (k-z-1)))
+(boundary k 3 (1 ^|2|3|))
+(express k 2 (1 ^|5|))
+(express k 2 (1 ^|-2|))
+(boundary (suspension k) 4 (1 ^^|2|3|))
+; ^ of a degeneracy is a degeneracy, and of those of the vertex that of the base: all of them count as 0.
+(boundary k 3 (1 ^0:|4|) (1 1:^|4|) (1 ^|0|4|))
+(boundary k 2 (1 ^0:|) (1 1-0:*) (1 ^|0|))
+(boundary k 0 (1 *))
+(express k 0 (4 *) (5 *))
+(boundary k 1 (1 *))
+(boundary k 2 (1 |5|))
+(boundary k 3 (1 ^|5|))
+(boundary k 2 (1 ^|100001|))
+(express k 2 (1 ^|60000|))
+; A name keeps what it stood for.
+(setf rp2 (sphere 1))
+(betti s 0 3)
+(field 2)
+(betti s 0 3)
+; The part has one vertex, and a space is nested at most 8 deep; parts come before the whole, and the space before the degrees.
+(setf x (suspension (table (a) (b))))
+(homology (suspension (table (a) (b))) 17)
+(setf x (suspension (sphere 17)))
+(setf x (suspension (table (e e e))))
+(setf x (suspension nowhere))
+(setf x (suspension (loop-space (sphere 2))))
+(setf seven (suspension (suspension (suspension (suspension (suspension (suspension (suspension (sphere 1)))))))))
+(betti seven 0 9)
+(homology seven 8)
+(setf x (suspension (suspension (suspension (suspension (suspension (suspension (suspension (suspension (sphere 1))))))))))
+(setf x (suspension seven))
+(setf x (suspension (suspension seven)))
+(betti (suspension (suspension (suspension (suspension (suspension (suspension (suspension (suspension (sphere 17))))))))) 0 3)
+(names)
+",
+        "betti 1 0 1 0
+homology 1
+(1 *)
+homology 1
+(1 ^|1|)
+betti 1 0 0 1 0
+homology 1
+(1 ^S2)
+betti 1 0 0 1 0
+homology 1
+(1 ^^|1|)
+defined rp2
+defined s
+betti 1 0 1 1
+homology 1
+(1 ^t)
+chain 0
+field 3
+betti 1 0 0 0
+chain (1 ^e)
+coefficients
+chain (1 ^t)
+error not-a-cycle (1 ^e)
+field 7
+defined k
+chain (6 ^|2|) (6 ^|3|) (1 ^|5|)
+coefficients 5
+chain (1 ^|1|1|) (1 ^|1|2|) (1 ^|1|3|) (1 ^|1|4|)
+coefficients 5
+chain (6 ^|1|-2|) (6 ^|1|-1|)
+chain (1 ^^|2|) (1 ^^|3|) (6 ^^|5|)
+chain 0
+chain 0
+chain 0
+coefficients 2
+chain 0
+error simplex 1
+error simplex 1
+error simplex 1
+error over integer 100001
+error over terms 59999
+defined rp2
+betti 1 0 0 0
+field 2
+betti 1 0 1 1
+error term not-one-vertex 2
+error term not-one-vertex 2
+error term bad-sphere 17
+error table no-vertex
+error unknown-name nowhere
+error not-built
+defined seven
+betti 1 0 0 0 0 0 0 0 1 0
+homology 1
+(1 ^^^^^^^S1)
+error term too-deep 9
+error term too-deep 9
+error term too-deep 9
+error term bad-sphere 17
+names rp2 s k seven
 ",
     ),
     (
@@ -978,7 +1181,95 @@ homology 1
 ",
     ),
     (
-        "tour: 7. What an answer claims, and what comes next",
+        "tour: 7. K(Z,1)",
+        "(setf k (k-z-1))
+(field 7)
+(boundary k 2 (1 |2|3|))
+(boundary k 2 (1 |0|3|) (1 0:|4|))
+(boundary k 1 (1 |2|3|))
+(betti k 0 4)
+(homology k 1)
+(homology k 0)
+(express k 1 (1 |5|))
+(express k 1 (1 |-2|))
+(express k 2 (1 |2|3|))
+(express k 1 (1 |60000|))
+(boundary k 1 (1 |100001|))
+(boundary k 2 (1 |100000|1|))
+(boundary k 1 (1 |100000|))
+",
+        "defined k
+field 7
+chain (1 |2|) (1 |3|) (6 |5|)
+chain 0
+error simplex 1
+betti 1 1 0 0 0
+homology 1
+(1 |1|)
+homology 1
+(1 |)
+coefficients 5
+chain (6 |1|1|) (6 |1|2|) (6 |1|3|) (6 |1|4|)
+coefficients 5
+chain (1 |1|-2|) (1 |1|-1|)
+error not-a-cycle (1 |2|)
+error over terms 59999
+error over integer 100001
+error over integer 100001
+chain 0
+",
+    ),
+    (
+        "tour: 8. Suspensions",
+        "(betti (suspension (sphere 2)) 0 4)
+(homology (suspension (sphere 2)) 3)
+(homology (suspension (sphere 2)) 0)
+(setf rp2 (table (v) (e v v) (t e 0:v e)))
+(setf s (suspension rp2))
+(betti s 0 3)
+(field 3)
+(betti s 0 3)
+(boundary s 3 (1 ^t))
+(express s 2 (1 ^e))
+(setf k (suspension (k-z-1)))
+(betti k 0 3)
+(homology k 2)
+(express k 2 (1 ^|5|))
+(homology (suspension k) 3)
+(boundary k 3 (1 ^0:|4|))
+(setf x (suspension (table (a) (b))))
+(homology (suspension (sphere 17)) 17)
+(setf x (suspension (suspension (suspension (suspension (suspension (suspension (suspension (suspension (sphere 1))))))))))
+",
+        "betti 1 0 0 1 0
+homology 1
+(1 ^S2)
+homology 1
+(1 *)
+defined rp2
+defined s
+betti 1 0 1 1
+field 3
+betti 1 0 0 0
+chain (1 ^e)
+coefficients
+chain (1 ^t)
+defined k
+betti 1 0 1 0
+homology 1
+(1 ^|1|)
+coefficients 2
+chain (1 ^|1|1|) (1 ^|1|2|) (1 ^|1|3|) (1 ^|1|4|)
+homology 1
+(1 ^^|1|)
+chain 0
+error term not-one-vertex 2
+error term bad-sphere 17
+error term too-deep 9
+",
+    ),
+    (
+        "tour: 9. What an answer claims, and what comes next",
         "(betti (loop-space (sphere 2)) 0 3)
 ",
         "error not-built
@@ -1031,14 +1322,21 @@ chain (1 s)
     ),
     (
         "language: Spaces",
-        "(setf s (sphere 2))
+        "(betti (suspension (k-z-1)) 0 3)
+(homology (suspension (k-z-1)) 2)
+(homology (suspension (table (a) (b))) 17)
+(setf s (sphere 2))
 (setf old s)
 (setf s (sphere 3))
 (names)
 (betti old 0 3)
 (betti s 0 3)
 ",
-        "defined s
+        "betti 1 0 1 0
+homology 1
+(1 ^|1|)
+error term not-one-vertex 2
+defined s
 defined old
 defined s
 names s old
@@ -1071,6 +1369,8 @@ betti 1 1
 (express (sphere 2) 2 (-1 S2))
 (express (sphere 2) 0 (100 *))
 (boundary (sphere 2) 2 0)
+(boundary (k-z-1) 2 (1 |2|3|) (1 |0|4|))
+(boundary (suspension (k-z-1)) 3 (1 ^|2|3|) (1 ^0:|4|))
 ",
         "chain 0
 field 5
@@ -1081,6 +1381,8 @@ chain 0
 coefficients 0
 chain 0
 chain 0
+chain (1 |2|) (1 |3|) (4 |5|)
+chain (4 ^|2|) (4 ^|3|) (1 ^|5|)
 ",
     ),
     (
@@ -1094,11 +1396,14 @@ chain 0
 (boundary (sphere 2) 2 (-0 S2))
 (betti (crts-prdc (sphere 1) (sphere 1)) 0 2)
 (homology (loop-space nowhere) 99)
-(setf k (suspension (k-z-1)))
+(setf k (suspension (path-space (sphere 0))))
 (betti x 0 1)
 (field 4)
 (betti (sphere 0) 0 1)
 (setf s (sphere 17))
+(setf x (suspension (table (a) (b))))
+(setf x (suspension (suspension (suspension (suspension (suspension (suspension (suspension (suspension (sphere 1))))))))))
+(setf x (suspension (sphere 17)))
 (setf x (table))
 (setf x (table (e e e)))
 (setf x (table (v) (e v v) (e v v)))
@@ -1115,6 +1420,10 @@ chain 0
 (setf rp2 (table (v) (e v v) (t e 0:v e)))
 (field 3)
 (express rp2 2 (1 t))
+(boundary (k-z-1) 1 (1 |2|3|))
+(boundary (k-z-1) 1 (1 |100001|))
+(boundary (k-z-1) 2 (1 |100000|1|))
+(express (k-z-1) 1 (1 |60000|))
 (express nowhere 17 (1 x))
 (express rp2 17 (1 x))
 (express rp2 2 (1 t) (1 x))
@@ -1133,6 +1442,9 @@ error unknown-name x
 error field 4
 error term bad-sphere 0
 error term bad-sphere 17
+error term not-one-vertex 2
+error term too-deep 9
+error term bad-sphere 17
 error table no-vertex
 error table no-vertex
 error table duplicate-cell 2
@@ -1149,6 +1461,10 @@ error simplex 2
 defined rp2
 field 3
 error not-a-cycle (2 e)
+error simplex 1
+error over integer 100001
+error over integer 100001
+error over terms 59999
 error unknown-name nowhere
 error degree 17
 error simplex 2

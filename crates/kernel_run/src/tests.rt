@@ -73,7 +73,7 @@ fn a_session_answers_each_line(rt: HostRuntime) -> Result<(), Fail> {
             "error syntax\n",
         ),
         ("(homology (sphere 03) 3)", "error syntax\n"),
-        ("(homology (k-z-1) 1)", "error not-built\n"),
+        ("(homology (loop-space x) 1)", "error not-built\n"),
         ("", ""),
         ("; nothing", ""),
         (

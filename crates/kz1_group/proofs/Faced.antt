@@ -47,14 +47,15 @@ module _ (X : Space) where
     pub plain_is : form y X ≡ (set_of X).face i (form x X)
     pub simplex : IsSimplex X (n - 1) y
 
-  module _ (laws : IsSimplicial (set_of X)) (cells : (m : ℕ) (c : Cell) → IsCell X m c → (set_of X).In m (cell_form c X)) where
-    module _ (n i : ℕ) (x : Simplex) (k : Worded n x) (positive : 1 ≤ n) (index : i ≤ n) where
+  -- the cells are simplices, in the degrees that masks of the code reach
+  module _ (laws : IsSimplicial (set_of X)) (cells : (m : ℕ) → m ≤ 32 → (c : Cell) → IsCell X m c → (set_of X).In m (cell_form c X)) where
+    module _ (n i : ℕ) (x : Simplex) (k : Worded n x) (positive : 1 ≤ n) (most : n ≤ 32) (index : i ≤ n) where
       abbrev w : List ℕ
       w = mask_word x.degens.mask
 
       face_is : (set_of X).face i (form x X) ≡ passed_on (set_of X) (face_word i w) (cell_form x.cell X)
       face_is =
-          face-degenerated (set_of X) laws k.dim i w (cell_form x.cell X) (cells k.dim x.cell k.cell) (subst (λ m. IsWord m w) (sym k.degree) k.is_word)
+          face-degenerated (set_of X) laws k.dim i w (cell_form x.cell X) (cells k.dim (let e : k.dim + length w ≡ n = k.degree in omega (arith, e)) x.cell k.cell) (subst (λ m. IsWord m w) (sym k.degree) k.is_word)
           (omega (arith, index, k.degree))
 
       pub passes : IsPassed (n - 1) w (face_word i w)
@@ -111,8 +112,8 @@ module _ (X : Space) where
             let d : k.dim - 1 ≡ n - 1 - length v = omega (arith, reached.count, k.degree) in
             compose_in (n - 1) v r reached.is_word (subst (λ m. IsWord m r) d inner.is_word)
 
-        pub fits : n ≤ 32 → IsWord 32 (compose_words v r)
-        fits most = word_below (n - 1) 32 (compose_words v r) (omega arith) whole
+        pub fits : IsWord 32 (compose_words v r)
+        fits = word_below (n - 1) 32 (compose_words v r) (omega arith) whole
 
         pub face_through : (y : Simplex) → mask_word y.degens.mask ≡ compose_words v r → y.cell ≡ z.cell → Faced n i x y
         face_through y f g =
@@ -121,7 +122,7 @@ module _ (X : Space) where
             record {
               plain_is =
                   (λ t. degenerated (set_of X) (f t) (cell_form (g t) X))
-                  ∙ sym (degenerated-compose (set_of X) laws inner.dim v r (cell_form z.cell X) (cells inner.dim z.cell inner.cell)
+                  ∙ sym (degenerated-compose (set_of X) laws inner.dim v r (cell_form z.cell X) (cells inner.dim (omega (arith, total)) z.cell inner.cell)
                   (subst (λ m. IsWord m r) (sym lower) inner.is_word) (subst (λ m. IsWord m v) (sym total) reached.is_word))
                   ∙ ap (degenerated (set_of X) v) z_is ∙ ap (λ q. passed_on (set_of X) q (cell_form x.cell X)) e ∙ sym face_is;
               simplex = simplex_from (n - 1) y (record {

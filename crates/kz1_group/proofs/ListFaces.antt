@@ -21,8 +21,8 @@ use Rattle.kz1_group.proofs.Magnitudes.{summable, face_within}
 pub a_list : (n : ℕ) (x : Simplex) → IsSimplex kz1 n x → (list : List ℤ) × (x.cell ≡ Ints list)
 a_list n x h = let k = worded kz1 n x h in let s = list_of k.dim x.cell k.cell in (s.list, s.cell)
 
-cells : (m : ℕ) (c : Cell) → IsCell kz1 m c → (set_of kz1).In m (cell_form c kz1)
-cells m c h = ((stand m).bare c h).is_in
+cells : (m : ℕ) → m ≤ 32 → (c : Cell) → IsCell kz1 m c → (set_of kz1).In m (cell_form c kz1)
+cells m low c h = ((stand m).bare c h).is_in
 
 module _ (n i : ℕ) (x : Simplex) (list : List ℤ) (h : IsSimplex kz1 n x) (positive : 1 ≤ n) (most : n ≤ 32) (index : i ≤ n) (e : x.cell ≡ Ints list) where
   k : Worded kz1 n x
@@ -37,14 +37,14 @@ module _ (n i : ℕ) (x : Simplex) (list : List ℤ) (h : IsSimplex kz1 n x) (po
       ap length (sym plain ∙ ap (λ c. cell_form c kz1) s.cell ∙ form_list s.list) ∙ s.count
 
   pub absorbed_face : (y : Simplex) → absorbed (mask_word y.degens.mask) ≡ face_word i (mask_word x.degens.mask) → y.cell ≡ x.cell → Faced kz1 n i x y
-  absorbed_face y f g = face_absorbed kz1 laws cells n i x k positive index y f g
+  absorbed_face y f g = face_absorbed kz1 laws cells n i x k positive most index y f g
 
   pub list_summable : cell_integer x.cell ≤ 2 ^ 40 → IsSummable list
   list_summable l = summable list (let b : greatest nat_abs list ≡ cell_integer x.cell = sym (ap cell_integer e ∙ integer_ints list) in omega (arith, b, l))
 
   module _ (j : ℕ) (v : List ℕ) (f : through j v ≡ face_word i (mask_word x.degens.mask)) where
-    reached : Reaches kz1 laws cells n i x k positive index j v
-    reached = reaches kz1 laws cells n i x k positive index j v f
+    reached : Reaches kz1 laws cells n i x k positive most index j v
+    reached = reaches kz1 laws cells n i x k positive most index j v f
 
     pub list_some : 1 ≤ length list
     list_some = omega (arith, count, reached.some)
@@ -69,10 +69,10 @@ module _ (n i : ℕ) (x : Simplex) (list : List ℤ) (h : IsSimplex kz1 n x) (po
         z_is = z_form ∙ g ∙ ap (nerve_face integers j) (sym plain)
 
         pub words_fit : IsWord 32 (compose_words v (mask_word z.degens.mask))
-        words_fit = fits kz1 laws cells n i x k positive index j v f z zs z_is most
+        words_fit = fits kz1 laws cells n i x k positive most index j v f z zs z_is
 
         pub reached_face : (y : Simplex) → mask_word y.degens.mask ≡ compose_words v (mask_word z.degens.mask) → y.cell ≡ z.cell → Faced kz1 n i x y
-        reached_face y a b = face_through kz1 laws cells n i x k positive index j v f z zs z_is y a b
+        reached_face y a b = face_through kz1 laws cells n i x k positive most index j v f z zs z_is y a b
 
         pub reached_within : cell_integer z.cell ≡ greatest nat_abs face → cell_integer z.cell ≤ 2 * cell_integer x.cell
         reached_within a =

@@ -8,13 +8,13 @@ use Rattle.term_lang.proofs.TableForms.{table_forms}
 use Rattle.term_lang.proofs.SphereForms.{sphere_forms}
 use Rattle.term_lang.proofs.NormalCells.{normal_cells}
 use Rattle.oracle_iface.specs.KeyLaws.{HasCells}
-use Rattle.normal_forms.specs.Covered.{IsCovered}
+use Rattle.normal_forms.specs.Built.{IsBuilt}
 use Rattle.kz1_group.proofs.ListForms.{integers_cells}
 use Rattle.normal_forms.proofs.FormsOfCells.{forms_of_cells}
 use Rattle.normal_forms.proofs.Suspended.{suspended_cells}
 use Rattle.normal_forms.proofs.Exact.{exact_order}
 
-pub cells_of : (X : Space) → Admits X → IsCovered X → HasCells X
+pub cells_of : (X : Space) → Admits X → IsBuilt X → HasCells X
 cells_of (table t) is built n h = normal_cells (table t) n h (table_forms t is n h)
 cells_of (sphere m) is built n h = normal_cells (sphere m) n h (sphere_forms m is.0 n h)
 cells_of (product a b) is built n h = absurd built
@@ -26,9 +26,9 @@ cells_of (paths a) is built n h = absurd built
 cells_of (kzm1 m) is built n h = absurd built
 cells_of (cyclic_bundle t m c) is built n h = absurd built
 
-pub built_cells : (X : Space) → IsAllowed X → IsCovered X → HasCells X
+pub built_cells : (X : Space) → IsAllowed X → IsBuilt X → HasCells X
 built_cells X is built = cells_of X is.0 built
 
-pub built_forms : (X : Space) → IsAllowed X → IsCovered X → (n : ℕ) → n ≤ 32 → HasNormalForms X n
+pub built_forms : (X : Space) → IsAllowed X → IsBuilt X → (n : ℕ) → n ≤ 32 → HasNormalForms X n
 built_forms X is built n h =
     forms_of_cells X (space_set_laws X is.0) n h (λ m l. cells_of X is.0 built m (omega (arith, h, l))) (exact_order X is.0 built)

@@ -15,7 +15,7 @@ use Rattle.spaces.specs.Allowed.{Admits}
 use Rattle.spaces.proofs.Orders.{plain-apart}
 use Rattle.spaces.proofs.SpaceLaws.{space_set_laws}
 use Rattle.spaces.proofs.TableDegenerate.{word-degenerate}
-use Rattle.normal_forms.specs.Covered.{IsCovered}
+use Rattle.normal_forms.specs.Built.{IsBuilt}
 use Rattle.normal_forms.proofs.FormsOfCells.{IsExact}
 use Rattle.normal_forms.proofs.Suspended.{Bare, bare_of}
 
@@ -29,7 +29,7 @@ ints-alike (a ∷ x) = then_equal (int_cmp a a) (slice_cmp int_cmp x x) (tied_it
 rows-alike : (y : RowSimplex) → two_cmp (slice_cmp nat_cmp) nat_cmp y y ≡ Equal
 rows-alike y = then_equal (slice_cmp nat_cmp y.0 y.0) (nat_cmp y.1 y.1) (tied_itself nat_list_cmp_total y.0) (tied_itself nat_cmp_total y.1)
 
-pub alike : (X : Space) → IsCovered X → (y : Plain X) → plain_cmp X y y ≡ Equal
+pub alike : (X : Space) → IsBuilt X → (y : Plain X) → plain_cmp X y y ≡ Equal
 alike (table t) built y = rows-alike y
 alike (sphere m) built y = rows-alike y
 alike (product a b) built y = absurd built
@@ -68,7 +68,7 @@ up-apart a allowed apart n x y is js h k e = by (bare_of a allowed n x is h) (ba
         let f : cell_cmp a (n - 1) p.under q.under ≡ Equal = (λ i. cell_cmp (suspension a) n (sym p.is i) (sym q.is i)) ∙ e in
         p.is ∙ ap (λ z. Some (0, z)) (apart (n - 1) p.under q.under p.is_in q.is_in p.bare q.bare f) ∙ sym q.is
 
-pub cells-apart : (X : Space) → Admits X → IsCovered X → Apart X
+pub cells-apart : (X : Space) → Admits X → IsBuilt X → Apart X
 cells-apart (table t) is built = rows-apart t (space_set_laws (table t) is)
 cells-apart (sphere m) is built = rows-apart (sphere_rows m) (space_set_laws (sphere m) is)
 cells-apart (product a b) is built = absurd built
@@ -80,5 +80,5 @@ cells-apart (paths a) is built = absurd built
 cells-apart (kzm1 m) is built = absurd built
 cells-apart (cyclic_bundle t m c) is built = absurd built
 
-pub exact_order : (X : Space) (is : Admits X) → IsCovered X → IsExact X (space_set_laws X is)
+pub exact_order : (X : Space) (is : Admits X) → IsBuilt X → IsExact X (space_set_laws X is)
 exact_order X is built = record { alike = alike X built; apart = cells-apart X is built }

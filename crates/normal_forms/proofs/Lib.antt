@@ -4,3 +4,7 @@ pub mod FormsOfCells
 pub mod Suspended
 pub mod Exact
 pub mod BuiltForms
+pub mod PairCells
+pub mod PairedProducts
+pub mod PairedBundles
+pub mod PairForms

@@ -1,7 +1,7 @@
-//! The normal forms of the simplices of tables, spheres, K(Z,1) and their suspensions. Laws alone: a function here has an empty body, and its
-//! contract is a law.
+//! Which constructions there is code for, and the normal forms of their simplices; those of products and circle bundles too. Laws
+//! alone: a function here has an empty body, and its contract is a law.
 #![tactic(auto)]
 
 mod laws;
 
-pub use laws::{covered_normal_forms, suspension_normal_forms};
+pub use laws::{built_normal_forms, pair_normal_forms, suspension_normal_forms};

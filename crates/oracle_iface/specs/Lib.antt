@@ -11,4 +11,3 @@ pub mod KeyLaws
 pub mod KeyOrder
 pub mod Histories
 pub mod Memos
-pub mod Built

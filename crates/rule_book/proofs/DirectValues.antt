@@ -36,7 +36,7 @@ use Rattle.oracle_iface.specs.Keys.{question_at, quote_body, quote_basis, quote_
 use Rattle.oracle_iface.specs.KeyLaws.{small_row, IsAtRow, IsAtSmallSphere, IsAtSphere}
 use Rattle.oracle_iface.proofs.Named.{term-back}
 use Rattle.oracle_iface.proofs.ValidPlaces.{table-small_key, table-big_key, sphere-small_key, sphere-big_key, sphere-key_dim}
-use Rattle.oracle_iface.specs.Built.{IsBuilt}
+use Rattle.rule_book.specs.RowSpaces.{HasRows}
 use Rattle.rule_book.specs.Values.{HasValue}
 use Rattle.rule_book.proofs.SphereBoundary.{sphere-d}
 
@@ -83,10 +83,10 @@ pub body_is : (k : Key) (o : Op) (place : Place) (a : Space) → k.op ≡ o → 
 body_is k o place a e f g = λ i. body_at k.prime (e i) (f i) (g i)
 
 -- the terms of tables and spheres
-pub built_cases : (P : Term → Type 0) → ((rows : List Row) → P (TableTerm rows)) → ((m : ℕ) → P (Sphere m)) → (t : Term) → IsBuilt (space_of t) → P t
-built_cases P table_case sphere_case t built = by (space_of t) built (term-back t)
+pub row_cases : (P : Term → Type 0) → ((rows : List Row) → P (TableTerm rows)) → ((m : ℕ) → P (Sphere m)) → (t : Term) → HasRows (space_of t) → P t
+row_cases P table_case sphere_case t has = by (space_of t) has (term-back t)
   where
-    by : (a : Space) → IsBuilt a → term_of a ≡ t → P t
+    by : (a : Space) → HasRows a → term_of a ≡ t → P t
     by (table rows) b e = subst P e (table_case _)
     by (sphere m) b e = subst P e (sphere_case m)
     by (product a b) h e = absurd h
@@ -219,8 +219,8 @@ module _ (k : Key) (valid : IsValidKey k) where
       ∙ sym (d-sphere k.prime m (sphere-key_dim k m valid e).0 k.place (sphere-small_key k m valid e (inl o)))
       ∙ sym (body_is k SmallD k.place (sphere m) o refl (space_sphere k m e))
 
-  pub g-built : (x : Cell) → IsBuilt (space_of k.term) → k.op ≡ G → k.place ≡ SmallPlace (One x) → HasValue k (BigBody (formal k.prime ((x, 1) ∷ [])))
-  g-built x built o h = built_cases (λ t. k.term ≡ t → HasValue k (BigBody (formal k.prime ((x, 1) ∷ [])))) of_table of_sphere k.term built refl
+  pub g-rows : (x : Cell) → HasRows (space_of k.term) → k.op ≡ G → k.place ≡ SmallPlace (One x) → HasValue k (BigBody (formal k.prime ((x, 1) ∷ [])))
+  g-rows x has o h = row_cases (λ t. k.term ≡ t → HasValue k (BigBody (formal k.prime ((x, 1) ∷ [])))) of_table of_sphere k.term has refl
     where
       of_table : (rows : List Row) → k.term ≡ TableTerm rows → HasValue k (BigBody (formal k.prime ((x, 1) ∷ [])))
       of_table rows e =
@@ -235,8 +235,8 @@ module _ (k : Key) (valid : IsValidKey k) where
           ∙ sym (body_is k G k.place (sphere m) o refl (space_sphere k m e))
 
   -- a cell
-  pub f-built : (x : Cell) → IsBuilt (space_of k.term) → k.op ≡ F → k.place ≡ BigPlace x → HasValue k (SmallBody (formal k.prime ((One x, 1) ∷ [])))
-  f-built x built o h = built_cases (λ t. k.term ≡ t → HasValue k (SmallBody (formal k.prime ((One x, 1) ∷ [])))) of_table of_sphere k.term built refl
+  pub f-rows : (x : Cell) → HasRows (space_of k.term) → k.op ≡ F → k.place ≡ BigPlace x → HasValue k (SmallBody (formal k.prime ((One x, 1) ∷ [])))
+  f-rows x has o h = row_cases (λ t. k.term ≡ t → HasValue k (SmallBody (formal k.prime ((One x, 1) ∷ [])))) of_table of_sphere k.term has refl
     where
       of_table : (rows : List Row) → k.term ≡ TableTerm rows → HasValue k (SmallBody (formal k.prime ((One x, 1) ∷ [])))
       of_table rows e =
@@ -250,8 +250,8 @@ module _ (k : Key) (valid : IsValidKey k) where
           sym (f-sphere k.prime m (sphere-key_dim k m valid e).0 k.place x (sphere-big_key k m valid e (inl o)) h)
           ∙ sym (body_is k F k.place (sphere m) o refl (space_sphere k m e))
 
-  pub h-built : (c : Formal Cell) → IsBuilt (space_of k.term) → k.op ≡ H → c.prime ≡ k.prime → c.terms ≡ [] → HasValue k (BigBody c)
-  h-built c built o s h = (λ i. BigBody (record { prime = s i; terms = h i })) ∙ built_cases (λ t. k.term ≡ t → HasValue k (BigBody (formal k.prime []))) of_table of_sphere k.term built refl
+  pub h-rows : (c : Formal Cell) → HasRows (space_of k.term) → k.op ≡ H → c.prime ≡ k.prime → c.terms ≡ [] → HasValue k (BigBody c)
+  h-rows c has o s h = (λ i. BigBody (record { prime = s i; terms = h i })) ∙ row_cases (λ t. k.term ≡ t → HasValue k (BigBody (formal k.prime []))) of_table of_sphere k.term has refl
     where
       of_table : (rows : List Row) → k.term ≡ TableTerm rows → HasValue k (BigBody (formal k.prime []))
       of_table rows e = let at = table-big_key k rows valid e (inr o) in sym (body_is k H _ (table (rows_of rows)) o at.is (space_table k rows e))

@@ -7,3 +7,4 @@ pub mod Kept
 pub mod WithinLimits
 pub mod SphereKeys
 pub mod RuleAsks
+pub mod SuspendedKey

@@ -1,4 +1,4 @@
--- Keys about spheres that there are rules for.
+-- Valid keys about spheres.
 use Rattle.std.proofs.Common.{ℕ, refl, sym, subst, arith}
 use Rattle.std.specs.Prelude.{Contains}
 use Rattle.fp_field.specs.declared.prime.Prime.{Prime}
@@ -14,19 +14,19 @@ use Rattle.values.proofs.BasesCells.{sphere-cell}
 use Rattle.oracle_iface.specs.declared.keys.Op.TheVariants.{Basis, G}
 use Rattle.oracle_iface.specs.declared.keys.Place.TheVariants.{Degree, Small as SmallPlace}
 use Rattle.oracle_iface.proofs.KeysBack.{sphere-valid-back, valid-key}
-use Rattle.oracle_iface.specs.Built.{IsBuilt, IsTreated}
+use Rattle.rule_book.specs.RowSpaces.{HasRows, IsRowKey}
 
-built : (m : ℕ) → IsBuilt (Rattle.term_lang.specs.SpaceOf.space_of (Sphere m))
-built m = subst IsBuilt (sym (space-Sphere m)) tt
+rows : (m : ℕ) → HasRows (Rattle.term_lang.specs.SpaceOf.space_of (Sphere m))
+rows m = subst HasRows (sym (space-Sphere m)) tt
 
-pub basis-treated : (p : Prime) → IsTreated (record { op = Basis; prime = p; place = Degree 2; term = Sphere 2 })
-basis-treated p = (valid-key p (basis (sphere 2) 2) (sphere-valid-back p (basis (sphere 2) 2) 2 refl valid) valid, built 2)
+pub basis-row_key : (p : Prime) → IsRowKey (record { op = Basis; prime = p; place = Degree 2; term = Sphere 2 })
+basis-row_key p = (valid-key p (basis (sphere 2) 2) (sphere-valid-back p (basis (sphere 2) 2) 2 refl valid) valid, rows 2)
   where
     valid : IsValid (number p) (basis (sphere 2) 2)
     valid = (((omega arith, omega arith), omega arith), tt, omega arith)
 
-pub g-treated : (p : Prime) → IsTreated (record { op = G; prime = p; place = SmallPlace (One (Top 2)); term = Sphere 2 })
-g-treated p = (valid-key p (g (sphere 2) 1) (sphere-valid-back p (g (sphere 2) 1) 2 refl valid) valid, built 2)
+pub g-row_key : (p : Prime) → IsRowKey (record { op = G; prime = p; place = SmallPlace (One (Top 2)); term = Sphere 2 })
+g-row_key p = (valid-key p (g (sphere 2) 1) (sphere-valid-back p (g (sphere 2) 1) 2 refl valid) valid, rows 2)
   where
     valid : IsValid (number p) (g (sphere 2) 1)
     valid = (((omega arith, omega arith), omega arith), subst (λ ys. Contains ys 1) (sym (sphere-cell (number p) 2 (omega arith))) (0, omega arith, refl), omega arith)

@@ -7,7 +7,7 @@ ghost use Rattle.values.specs.Rules.{rows_of_dim};
 ghost use Rattle.oracle_iface.specs.Keys.{quote_basis};
 ghost use Rattle.oracle_iface.specs.declared.keys.Op.TheVariants.{Basis, SmallD, Cycles};
 ghost use Rattle.oracle_iface.specs.declared.bodies.Body.TheVariants.{Cells as CellsBody, Small as SmallBody};
-ghost use Rattle.oracle_iface.specs.Built.{IsTreated};
+ghost use Rattle.rule_book.specs.RowSpaces.{IsRowKey};
 ghost use Rattle.rule_book.specs.Values.{HasValue};
 
 use crate::places::{cell_at, degree_at, row_of, small_at};
@@ -35,7 +35,7 @@ fn sphere_cells(alloc: Global, m: u32, n: u32) -> Result<SmallList, AllocError>
 
 /// The small cells of the degree of a key.
 fn basis(alloc: Global, key: &Key) -> Result<SmallList, AllocError>
-    requires key { IsTreated key.now }
+    requires key { IsRowKey key.now }
     requires op { key.now.op ≡ Basis }
     ensures { IfOk result (λ ys. HasValue key.now (CellsBody ys)) }
 {
@@ -49,7 +49,7 @@ fn basis(alloc: Global, key: &Key) -> Result<SmallList, AllocError>
 
 /// The small differential at the small cell of a key. That of a sphere is 0.
 fn small_boundary(alloc: Global, key: &Key) -> Result<Chain<SmallCell>, AllocError>
-    requires key { IsTreated key.now }
+    requires key { IsRowKey key.now }
     requires op { key.now.op ≡ SmallD }
     ensures { IfOk result (λ c. HasValue key.now (SmallBody c)) }
 {
@@ -60,9 +60,10 @@ fn small_boundary(alloc: Global, key: &Key) -> Result<Chain<SmallCell>, AllocErr
     }
 }
 
-/// The value of a key about a table or a sphere, other than that of cycles.
+/// The value of a key about a table or a sphere, other than that of cycles: the rows of a degree, the small
+/// differential of a row, the cell itself for F and G, and 0 for H. Keys about other spaces are not for it.
 pub fn direct_value(alloc: Global, key: &Key) -> Result<Body, AllocError>
-    requires key { IsTreated key.now }
+    requires key { IsRowKey key.now }
     requires op { key.now.op ≡ Cycles → ⊥ }
     ensures { IfOk result (λ b. HasValue key.now b) }
 {

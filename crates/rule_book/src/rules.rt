@@ -3,17 +3,20 @@ ghost use Rattle.std.specs.Prelude.{◌≡◌, IfOk};
 ghost use Rattle.oracle_iface.specs.Stands.{IsOutcome};
 ghost use Rattle.oracle_iface.specs.Forcing.{MayForceNeeds, AsksNeeds};
 ghost use Rattle.oracle_iface.specs.declared.keys.Op.TheVariants.{Cycles as CyclesOp};
-ghost use Rattle.oracle_iface.specs.Built.{IsTreated};
+ghost use Rattle.normal_forms.specs.Built.{IsTreated};
 ghost use Rattle.rule_book.specs.Lower.{treated-valid, needs-lower, needs-back};
 
 use crate::outcomes::{direct_outcome, within_limits};
-use homology_rules::rule;
 use oracle_iface::{Forcer, Key, Op, Outcome, RuleSet};
 use std::alloc::{AllocError, Global};
+use term_lang::Term;
 
-/// The rules: what each valid key about a table or a sphere comes to. The cycles of a degree are found
-/// by asking for small cells, their small differentials, and G; every other key is answered at once
-/// (Rubio and Sergeraert, Constructive Homological Algebra and Applications, on effective homology).
+/// The rules: what each valid key comes to that is about a table, a sphere or K(Z,1), suspended any number
+/// of times. The cycles of a degree are found by asking for small cells, their small differentials, and G.
+/// Every other key about a suspension is answered by asking for one key of what is suspended, or none; one
+/// about a table, a sphere or K(Z,1) is answered at once (Rubio and Sergeraert, Constructive Homological
+/// Algebra and Applications, on effective homology and on suspensions; Eilenberg and Mac Lane, On the groups
+/// H(Pi,n), I).
 #[derive(Clone, Copy, Debug)]
 pub struct Rules;
 
@@ -34,7 +37,7 @@ impl RuleSet for Rules {
     ) -> Result<Outcome, AllocError> {
         match key.op {
             Op::Cycles => cycles_outcome(alloc, key, forcer),
-            _ => direct_outcome(alloc, key),
+            _ => single_outcome(alloc, key, forcer),
         }
     }
 }
@@ -51,6 +54,27 @@ fn cycles_outcome<F: Forcer>(
     ensures outcome { IfOk result (λ o. IsOutcome key.now o) }
     ensures asked { AsksNeeds F.forces key.now forcer.old forcer.new result }
 {
-    let found = rule(alloc, key, forcer)?;
+    let found = homology_rules::rule(alloc, key, forcer)?;
     within_limits(alloc, key, found)
+}
+
+/// The outcome of any other key, by the rule of its space.
+fn single_outcome<F: Forcer>(
+    alloc: Global,
+    key: &Key,
+    forcer: &mut F,
+) -> Result<Outcome, AllocError>
+    requires key { IsTreated key.now }
+    requires op { key.now.op ≡ CyclesOp → ⊥ }
+    requires forcer { MayForceNeeds F.may_force F.forces key.now forcer.old }
+    ensures outcome { IfOk result (λ o. IsOutcome key.now o) }
+    ensures asked { AsksNeeds F.forces key.now forcer.old forcer.new result }
+{
+    match key.term.get() {
+        Term::Table(_) => direct_outcome(alloc, key),
+        Term::Sphere(_) => direct_outcome(alloc, key),
+        Term::KZ1 => kz1_rules::rule(alloc, key, forcer),
+        Term::Suspension(_) => susp_rules::rule(alloc, key, forcer),
+        _ => unreachable!(),
+    }
 }

@@ -1,13 +1,17 @@
-ghost use Rattle.std.specs.Prelude.{◌≡◌, IfOk};
+ghost use Rattle.std.specs.Prelude.{◌≡◌, [], ◌∷◌, IfOk, pos};
+ghost use Rattle.cells.specs.declared.cells.Cell.TheVariants.{Ints as IntsCell, Up as UpCell};
+ghost use Rattle.term_lang.specs.declared.terms.Term.TheVariants.{Suspension as SuspensionTerm, KZ1};
 ghost use Rattle.oracle_iface.specs.declared.keys.Op.TheVariants.{Cycles as CyclesOp};
-ghost use Rattle.oracle_iface.specs.Built.{IsTreated};
+ghost use Rattle.normal_forms.specs.Built.{IsTreated};
+ghost use Rattle.rule_book.specs.RowSpaces.{IsRowKey};
 
+use crate::Rules;
 use crate::outcomes::direct_outcome;
 use crate::rows::{row_boundary, rows_of_dim};
 use finite_sets::build_table;
 use fp_field::{Fp, Prime};
-use oracle_iface::{Body, Key, Op, Outcome, Place};
-use seqs::{Arc, new_seq};
+use oracle_iface::{Body, CellValue, Forcer, Key, Op, Outcome, Place, RuleSet};
+use seqs::{Arc, Box, new_seq};
 use std::alloc::{AllocError, Global};
 use std::process::Abort;
 use std::test::Fail;
@@ -89,7 +93,7 @@ fn the_boundary_of_its_triangle(rt: HostRuntime) -> Result<(), Fail> {
 
 // The key of the small cells of degree 2 of the sphere of dimension 2, over F_3.
 fn basis_key(alloc: Global) -> Result<Key, AllocError>
-    ensures treated { IfOk result IsTreated }
+    ensures rows { IfOk result IsRowKey }
     ensures op { IfOk result (λ k. k.op ≡ CyclesOp → ⊥) }
 {
     Ok(Key {
@@ -102,7 +106,7 @@ fn basis_key(alloc: Global) -> Result<Key, AllocError>
 
 // The key of G at the cell of the sphere of dimension 2, over F_3.
 fn carried_key(alloc: Global) -> Result<Key, AllocError>
-    ensures treated { IfOk result IsTreated }
+    ensures rows { IfOk result IsRowKey }
     ensures op { IfOk result (λ k. k.op ≡ CyclesOp → ⊥) }
 {
     Ok(Key {
@@ -134,5 +138,86 @@ fn the_chain_of_that_cell(rt: HostRuntime) -> Result<(), Fail> {
         _ => panic!(rt; "no chain of the sphere"),
     };
     assert_eq!(rt; chain.terms(), [(Cell::Top(2), Fp { value: 1 })].as_slice());
+    Ok(())
+}
+
+// Asked for nothing.
+#[derive(Drop)]
+struct Silent;
+
+impl Forcer for Silent {
+    ghost may_force = { λ s k. Unit {0} };
+
+    ghost forces = { λ s k r t. Unit {0} };
+
+    fn force(&mut self, key: Key) -> Result<Arc<CellValue>, AllocError> {
+        let _ = key;
+        Err(AllocError)
+    }
+}
+
+// Asked for keys that need nothing.
+#[derive(Drop)]
+struct AtOnce {
+    alloc: Global,
+}
+
+impl Forcer for AtOnce {
+    ghost may_force = { λ s k. IsTreated k };
+
+    ghost forces = { λ s k r t. Unit {0} };
+
+    fn force(&mut self, key: Key) -> Result<Arc<CellValue>, AllocError> {
+        let outcome = Rules.rule(self.alloc, &key, &mut Silent)?;
+        Arc::new(self.alloc, CellValue { key, outcome })
+    }
+}
+
+// The cell Up of |3|.
+fn up_of_three(alloc: Global) -> Result<Cell, AllocError>
+    ensures { IfOk result (λ x. x ≡ UpCell (IntsCell (pos 3 ∷ []))) }
+{
+    let mut list = new_seq(alloc);
+    list.push(3)?;
+    Ok(Cell::Up(Box::new(alloc, Cell::Ints(list))?))
+}
+
+// The suspension of K(Z,1).
+fn suspended_integers(alloc: Global) -> Result<Term, AllocError>
+    ensures { IfOk result (λ t. t ≡ SuspensionTerm KZ1) }
+{
+    Ok(Term::Suspension(Box::new(alloc, Term::KZ1)?))
+}
+
+// The key of F at this cell, in the suspension of K(Z,1), over F_5.
+fn suspended_key(alloc: Global) -> Result<Key, AllocError>
+    ensures { IfOk result IsTreated }
+{
+    let term = suspended_integers(alloc)?;
+    Ok(Key {
+        op: Op::F,
+        prime: Prime::Five,
+        place: Place::Big(up_of_three(alloc)?),
+        term: Arc::new(alloc, term)?,
+    })
+}
+
+// The outcome of that key.
+fn suspended_outcome(alloc: Global) -> Result<Outcome, AllocError> {
+    let key = suspended_key(alloc)?;
+    Rules.rule(alloc, &key, &mut AtOnce { alloc })
+}
+
+#[test]
+fn three_times_the_suspended_edge(rt: HostRuntime) -> Result<(), Fail> {
+    let alloc = rt.alloc();
+    let chain = match suspended_outcome(alloc)? {
+        Outcome::Value(Body::Small(chain)) => chain,
+        _ => panic!(rt; "no chain of the suspended circle"),
+    };
+    let mut edge = new_seq(alloc);
+    edge.push(1)?;
+    let up = SmallCell::Up(Box::new(alloc, SmallCell::One(Cell::Ints(edge)))?);
+    assert_eq!(rt; chain.terms(), [(up, Fp { value: 3 })].as_slice());
     Ok(())
 }

@@ -17,7 +17,10 @@ pub mod ResolveMeanings
 pub mod ResolvePrefixes
 pub mod ResolveRows
 pub mod ResolveSpaces
-pub mod ResolveForms
+pub mod ResolveFound
+pub mod ResolveShifts
+pub mod ResolveRaised
+pub mod ResolveLimits
 pub mod ResolveTerms
 pub mod ResolveSpheres
 pub mod ResolveCircle

@@ -1,11 +1,11 @@
 -- What texts and bodies mean, one layer at a time.
-use Rattle.std.proofs.Common.{◌≡◌, ℕ, List, None, sym, ◌∙◌, ap, subst}
+use Rattle.std.proofs.Common.{◌≡◌, ℕ, ℤ, List, None, sym, ◌∙◌, ap, subst}
 use Rattle.spaces.specs.Tables.{Table}
-use Rattle.spaces.specs.Spaces.{table, sphere}
+use Rattle.spaces.specs.Spaces.{Space, table, sphere, suspension, kz1}
 use Rattle.script_lang.specs.declared.simplices.SimplexText.{SimplexText, fold-roll-SimplexText}
 use Rattle.script_lang.specs.declared.simplices.LetterText.{LetterText, fold-LetterText}
 use Rattle.script_lang.specs.declared.simplices.BodyText.{BodyText, roll-BodyText, out-BodyText, roll-out-BodyText, map-BodyText, fold-roll-BodyText}
-use Rattle.script_lang.specs.declared.simplices.BodyText.TheVariants.{Star, Name, rolls-Star, rolls-Name}
+use Rattle.script_lang.specs.declared.simplices.BodyText.TheVariants.{Star, Name, Up, Ints, rolls-Star, rolls-Name, rolls-Up, rolls-Ints}
 use Rattle.script_lang.specs.declared.simplices.BodyText.TheOpen.{BodyText-F}
 use Rattle.script_lang.specs.Meaning.{BodyMeaning, LetterMeaning, Meaning, body_step, letter_step, simplex_step, meaning}
 use Rattle.script_lang.specs.Resolved.{body_meaning}
@@ -28,6 +28,12 @@ meaning-Star = ap body_meaning (sym rolls-Star) ∙ rolled BodyText-F.Star
 
 pub meaning-Name : (name : List ℕ) → body_meaning (Name name) ≡ body_step (BodyText-F.Name name)
 meaning-Name name = ap body_meaning (sym (rolls-Name name)) ∙ rolled (BodyText-F.Name name)
+
+pub meaning-Up : (x : SimplexText) → body_meaning (Up x) ≡ body_step (BodyText-F.Up (meaning x))
+meaning-Up x = ap body_meaning (sym (rolls-Up x)) ∙ rolled (BodyText-F.Up x)
+
+pub meaning-Ints : (list : List ℤ) → body_meaning (Ints list) ≡ body_step (BodyText-F.Ints list)
+meaning-Ints list = ap body_meaning (sym (rolls-Ints list)) ∙ rolled (BodyText-F.Ints list)
 
 -- other bodies mean nothing in a table or a sphere
 module _ (t : Table) (n : ℕ) where
@@ -74,3 +80,50 @@ layer_cases (BodyText-F.Word letters) = at_other (λ t n. ap (λ f. f (table t) 
 
 pub cases_body : (body : BodyText) → BodyCases body
 cases_body body = subst BodyCases (roll-out-BodyText body) (layer_cases (out-BodyText body))
+
+-- a body of K(Z,1) is a list, or means nothing; one of a suspension is the base, or Up of a text, or means nothing
+pub data IntsCases (body : BodyText) : Type 0 where
+  at_ints : (list : List ℤ) → body ≡ Ints list → IntsCases body
+  no_ints : ((n : ℕ) → body_meaning body kz1 n ≡ None) → IntsCases body
+
+pub data UpCases (body : BodyText) : Type 0 where
+  at_base : body ≡ Star → UpCases body
+  at_up : (x : SimplexText) → body ≡ Up x → UpCases body
+  no_up : ((a : Space) (n : ℕ) → body_meaning body (suspension a) n ≡ None) → UpCases body
+
+ints_cases : (y : BodyText-F BodyText LetterText SimplexText) → IntsCases (roll-BodyText y)
+ints_cases BodyText-F.Star = no_ints (λ n. ap (λ f. f kz1 n) (rolled BodyText-F.Star))
+ints_cases (BodyText-F.Name name) = no_ints (λ n. ap (λ f. f kz1 n) (rolled (BodyText-F.Name name)))
+ints_cases (BodyText-F.Up x) = no_ints (λ n. ap (λ f. f kz1 n) (rolled (BodyText-F.Up x)))
+ints_cases (BodyText-F.Pair x y) = no_ints (λ n. ap (λ f. f kz1 n) (rolled (BodyText-F.Pair x y)))
+ints_cases (BodyText-F.Ints list) = at_ints list (rolls-Ints list)
+ints_cases (BodyText-F.Word letters) = no_ints (λ n. ap (λ f. f kz1 n) (rolled (BodyText-F.Word letters)))
+
+pub cases_ints : (body : BodyText) → IntsCases body
+cases_ints body = subst IntsCases (roll-out-BodyText body) (ints_cases (out-BodyText body))
+
+pub ints_other : (n : ℕ) (body : BodyText) → ((list : List ℤ) → body ≡ Ints list → ⊥) → body_meaning body kz1 n ≡ None
+ints_other n body r = by (cases_ints body)
+  where
+    by : IntsCases body → body_meaning body kz1 n ≡ None
+    by (at_ints list e) = absurd (r list e)
+    by (no_ints h) = h n
+
+up_cases : (y : BodyText-F BodyText LetterText SimplexText) → UpCases (roll-BodyText y)
+up_cases BodyText-F.Star = at_base rolls-Star
+up_cases (BodyText-F.Name name) = no_up (λ a n. ap (λ f. f (suspension a) n) (rolled (BodyText-F.Name name)))
+up_cases (BodyText-F.Up x) = at_up x (rolls-Up x)
+up_cases (BodyText-F.Pair x y) = no_up (λ a n. ap (λ f. f (suspension a) n) (rolled (BodyText-F.Pair x y)))
+up_cases (BodyText-F.Ints list) = no_up (λ a n. ap (λ f. f (suspension a) n) (rolled (BodyText-F.Ints list)))
+up_cases (BodyText-F.Word letters) = no_up (λ a n. ap (λ f. f (suspension a) n) (rolled (BodyText-F.Word letters)))
+
+pub cases_up : (body : BodyText) → UpCases body
+cases_up body = subst UpCases (roll-out-BodyText body) (up_cases (out-BodyText body))
+
+pub up_other : (a : Space) (n : ℕ) (body : BodyText) → (body ≡ Star → ⊥) → ((x : SimplexText) → body ≡ Up x → ⊥) → body_meaning body (suspension a) n ≡ None
+up_other a n body s r = by (cases_up body)
+  where
+    by : UpCases body → body_meaning body (suspension a) n ≡ None
+    by (at_base e) = absurd (s e)
+    by (at_up x e) = absurd (r x e)
+    by (no_up h) = h a n

@@ -1,29 +1,33 @@
--- Terms of a construction that is built are tables and spheres.
-use Rattle.std.proofs.Common.{◌≡◌, ℕ, ◌≤◌, List, sym, ◌∙◌, ap, subst, arith}
+-- Terms of a construction that is built are tables, spheres, K(Z,1) and suspensions.
+use Rattle.std.proofs.Common.{◌≡◌, ℕ, ℤ, ◌≤◌, List, [], ◌∷◌, length, refl, sym, ◌∙◌, ap, subst, arith}
 use Rattle.term_lang.specs.declared.tables.Row.{Row}
 use Rattle.term_lang.specs.declared.terms.Term.{Term, roll-Term, out-Term, roll-out-Term}
-use Rattle.term_lang.specs.declared.terms.Term.TheVariants.{Table, Sphere, rolls-Table, rolls-Sphere, rolls-Product, rolls-Suspension, rolls-KZ1, rolls-Bundle, rolls-Loop, rolls-Path}
+use Rattle.term_lang.specs.declared.terms.Term.TheVariants.{Table, Sphere, Suspension, KZ1, rolls-Table, rolls-Sphere, rolls-Product, rolls-Suspension, rolls-KZ1, rolls-Bundle, rolls-Loop, rolls-Path}
 use Rattle.term_lang.specs.declared.terms.Term.TheOpen.{Term-F}
+use Rattle.spaces.specs.Spaces.{suspension, kz1}
 use Rattle.spaces.specs.Allowed.{IsTable, IsAllowed}
 use Rattle.term_lang.specs.Rows.{rows_of}
 use Rattle.term_lang.specs.SpaceOf.{space_of}
 use Rattle.term_lang.proofs.SpacesOfTerms.{space-Table, space-Sphere, space-Product, space-Suspension, space-KZ1, space-Bundle, space-Loop, space-Path}
-use Rattle.oracle_iface.specs.Built.{IsBuilt}
+use Rattle.normal_forms.specs.Built.{IsBuilt}
 
-unbuilt_layer : (y : Term-F Term) → IsBuilt (space_of (roll-Term y)) → ((rows : List Row) → roll-Term y ≡ Table rows → ⊥) → ((m : ℕ) → roll-Term y ≡ Sphere m → ⊥) → ⊥
-unbuilt_layer (Term-F.Table rows) h t s = t rows (rolls-Table rows)
-unbuilt_layer (Term-F.Sphere m) h t s = s m (rolls-Sphere m)
-unbuilt_layer (Term-F.Product a b) h t s = subst IsBuilt (ap space_of (rolls-Product a b) ∙ space-Product a b) h
-unbuilt_layer (Term-F.Suspension a) h t s = subst IsBuilt (ap space_of (rolls-Suspension a) ∙ space-Suspension a) h
-unbuilt_layer Term-F.KZ1 h t s = subst IsBuilt (ap space_of rolls-KZ1 ∙ space-KZ1) h
-unbuilt_layer (Term-F.Bundle rows values) h t s = subst IsBuilt (ap space_of (rolls-Bundle rows values) ∙ space-Bundle rows values) h
-unbuilt_layer (Term-F.Loop a) h t s = subst IsBuilt (ap space_of (rolls-Loop a) ∙ space-Loop a) h
-unbuilt_layer (Term-F.Path a) h t s = subst IsBuilt (ap space_of (rolls-Path a) ∙ space-Path a) h
+unbuilt_layer : (y : Term-F Term) → IsBuilt (space_of (roll-Term y)) → ((rows : List Row) → roll-Term y ≡ Table rows → ⊥) → ((m : ℕ) → roll-Term y ≡ Sphere m → ⊥)
+    → ((part : Term) → roll-Term y ≡ Suspension part → ⊥) → (roll-Term y ≡ KZ1 → ⊥) → ⊥
+unbuilt_layer (Term-F.Table rows) h t s p k = t rows (rolls-Table rows)
+unbuilt_layer (Term-F.Sphere m) h t s p k = s m (rolls-Sphere m)
+unbuilt_layer (Term-F.Product a b) h t s p k = subst IsBuilt (ap space_of (rolls-Product a b) ∙ space-Product a b) h
+unbuilt_layer (Term-F.Suspension a) h t s p k = p a (rolls-Suspension a)
+unbuilt_layer Term-F.KZ1 h t s p k = k rolls-KZ1
+unbuilt_layer (Term-F.Bundle rows values) h t s p k = subst IsBuilt (ap space_of (rolls-Bundle rows values) ∙ space-Bundle rows values) h
+unbuilt_layer (Term-F.Loop a) h t s p k = subst IsBuilt (ap space_of (rolls-Loop a) ∙ space-Loop a) h
+unbuilt_layer (Term-F.Path a) h t s p k = subst IsBuilt (ap space_of (rolls-Path a) ∙ space-Path a) h
 
-pub unbuilt : (x : Term) → IsBuilt (space_of x) → ((rows : List Row) → x ≡ Table rows → ⊥) → ((m : ℕ) → x ≡ Sphere m → ⊥) → ⊥
-unbuilt x h t s =
+pub unbuilt : (x : Term) → IsBuilt (space_of x) → ((rows : List Row) → x ≡ Table rows → ⊥) → ((m : ℕ) → x ≡ Sphere m → ⊥) → ((part : Term) → x ≡ Suspension part → ⊥)
+    → (x ≡ KZ1 → ⊥) → ⊥
+unbuilt x h t s p k =
     let e = roll-out-Term x in
     unbuilt_layer (out-Term x) (subst (λ y. IsBuilt (space_of y)) (sym e) h) (λ rows f. t rows (sym e ∙ f)) (λ m f. s m (sym e ∙ f))
+    (λ part f. p part (sym e ∙ f)) (λ f. k (sym e ∙ f))
 
 -- spheres of dimension 1 to 16 and tables may be asked for
 pub sphere_allowed : (m : ℕ) → 1 ≤ m → m ≤ 16 → IsAllowed (space_of (Sphere m))
@@ -37,3 +41,23 @@ table_allowed rows is = subst IsAllowed (sym (space-Table rows)) (is, omega arit
 
 pub table_built : (rows : List Row) → IsBuilt (space_of (Table rows))
 table_built rows = subst IsBuilt (sym (space-Table rows)) tt
+
+-- and so may K(Z,1) and its suspension
+pub integers_allowed : IsAllowed (space_of KZ1)
+integers_allowed = subst IsAllowed (sym space-KZ1) (tt, omega arith)
+
+pub integers_built : IsBuilt (space_of KZ1)
+integers_built = subst IsBuilt (sym space-KZ1) tt
+
+empty : (x : List ℤ) → length x ≡ 0 → x ≡ []
+empty [] e = refl
+empty (k ∷ x) e = absurd (omega (arith, e))
+
+suspended_is : (part : Term) → part ≡ KZ1 → suspension kz1 ≡ space_of (Suspension part)
+suspended_is part e = sym (space-Suspension part ∙ ap (λ t. suspension (space_of t)) e ∙ ap suspension space-KZ1)
+
+pub suspension_allowed : (part : Term) → part ≡ KZ1 → IsAllowed (space_of (Suspension part))
+suspension_allowed part e = subst IsAllowed (suspended_is part e) ((tt, ([], (refl, λ k d l. tt), λ x is. empty x is.0)), omega arith)
+
+pub suspension_built : (part : Term) → part ≡ KZ1 → IsBuilt (space_of (Suspension part))
+suspension_built part e = subst IsBuilt (suspended_is part e) tt

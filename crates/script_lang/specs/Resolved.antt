@@ -4,13 +4,16 @@
 -- greater than the limits allow (May, Simplicial Objects in Algebraic Topology, chapter I, on the normal form; Kenzo documentation, 1999, on
 -- geometric simplices).
 --
---   1-0:* gives in degree 2 of the 2-sphere the mask 3 before Base, and 0-1:* gives none
+--   1-0:* gives in degree 2 of the 2-sphere the mask 3 before Base, and 0-1:* gives none; |0|3| gives in degree 2 of K(Z,1) the mask 1
+--   before Ints of 3, and so does ^|0|3| in degree 3 of its suspension the mask 2 before Up of Ints of 3
 use Rattle.std.specs.Prelude.{◌≡◌, ℕ, Option, Some, None}
-use Rattle.spaces.specs.Spaces.{Space, table, sphere, product, suspension, kz1, bundle, loops, paths, kzm1, cyclic_bundle, Plain}
+use Rattle.spaces.specs.Spaces.{Space, Plain}
 use Rattle.values.specs.Sizes.{letters, integer}
 use Rattle.cells.specs.declared.cells.Cell.{Cell}
 use Rattle.cells.specs.declared.cells.Simplex.{Simplex}
-use Rattle.term_lang.specs.Quote.{quote, quote_cell}
+use Rattle.term_lang.specs.Belongs.{IsSimplex}
+use Rattle.term_lang.specs.Forms.{form}
+use Rattle.term_lang.specs.Quote.{degens_of, quote, quote_cell}
 use Rattle.oracle_iface.specs.declared.bodies.Kind.{Kind}
 use Rattle.oracle_iface.specs.Limits.{kind_past}
 use Rattle.script_lang.specs.declared.simplices.SimplexText.{SimplexText}
@@ -40,6 +43,15 @@ IsFault text a n Memory = Unit {0}
 unfoldable pub body_meaning : BodyText → BodyMeaning
 body_meaning body = fold-BodyText BodyMeaning LetterMeaning Meaning body_step letter_step simplex_step body
 
--- the cell of a body that means a non-degenerate simplex of dimension n
+-- what is found for a text or a body of degree n, from what it means: the simplex of the code whose plain form that is, or none
+abbrev pub IsFound : (a : Space) → ℕ → Option (Plain a) → Option Simplex → Type 0
+IsFound a n y None = y ≡ None
+IsFound a n y (Some x) = (y ≡ Some (form x a)) × IsSimplex a n x
+
+-- the cell of a body that means a non-degenerate simplex of dimension n, as each body of a table or a sphere does
 abbrev pub body_cell : BodyText → Space → ℕ → Option Cell
 body_cell body a n = mapped (quote_cell a n) (body_meaning body a n)
+
+-- a cell with no degeneracies before it
+abbrev pub bare_simplex : Cell → Simplex
+bare_simplex c = record { degens = degens_of 0; cell = c }

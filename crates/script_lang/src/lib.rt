@@ -5,6 +5,7 @@ mod bytes;
 mod commands;
 mod exprs;
 mod faults;
+mod forms;
 mod laws;
 mod lines;
 mod reader;

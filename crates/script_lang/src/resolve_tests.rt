@@ -2,13 +2,13 @@ ghost use Rattle.std.specs.Prelude.{◌≡◌, ◌≤◌, false, nat_eq};
 ghost use Rattle.std.specs.Cmp.Lexicographic.{pointwise};
 ghost use Rattle.spaces.specs.Allowed.{IsAllowed};
 ghost use Rattle.term_lang.specs.SpaceOf.{space_of};
-ghost use Rattle.oracle_iface.specs.Built.{IsBuilt};
+ghost use Rattle.normal_forms.specs.Built.{IsBuilt};
 
 use crate::resolving::{ResolveFault, resolve};
 use crate::simplices::{BodyText, SimplexText};
 use cells::{Cell, Simplex};
 use oracle_iface::Kind;
-use seqs::new_seq;
+use seqs::{Box, new_seq};
 use simp_ops::Degens;
 use std::alloc::{AllocError, Global};
 use std::process::Abort;
@@ -76,14 +76,29 @@ fn shown(alloc: Global, t: &Term, n: u32, text: &SimplexText) -> Result<String, 
     match resolve(alloc, t, n, text) {
         Ok(x) => {
             let mask = x.degens.mask;
-            match &x.cell {
-                Cell::Base => format!(in alloc; "{mask} Base"),
-                Cell::Top(m) => format!(in alloc; "{mask} Top {m}"),
-                Cell::Row(dim, row) => format!(in alloc; "{mask} Row {dim} {row}"),
-                _ => format!(in alloc; "{mask} another cell"),
-            }
+            let cell = cell_name(alloc, &x.cell)?;
+            format!(in alloc; "{mask} {cell}")
         }
+        Err(ResolveFault::Over(kind, size)) => format!(in alloc; "Over {kind:?} {size}"),
         Err(fault) => format!(in alloc; "{fault}"),
+    }
+}
+
+// The cell, where it is a list its first integer.
+fn cell_name(alloc: Global, cell: &Cell) -> Result<String, AllocError> {
+    match cell {
+        Cell::Base => format!(in alloc; "Base"),
+        Cell::Top(m) => format!(in alloc; "Top {m}"),
+        Cell::Row(dim, row) => format!(in alloc; "Row {dim} {row}"),
+        Cell::Ints(list) => {
+            let first = list.get(0).unwrap_or(&0);
+            format!(in alloc; "Ints {first}")
+        }
+        Cell::Up(part) => {
+            let under = cell_name(alloc, part.get())?;
+            format!(in alloc; "Up {under}")
+        }
+        _ => format!(in alloc; "another cell"),
     }
 }
 
@@ -102,6 +117,99 @@ fn in_table(alloc: Global, table: &Table, n: u32, text: &SimplexText) -> Result<
     let _rows = table.rows();
     let term = Term::Table(copy_table(alloc, table)?);
     shown(alloc, &term, n, text)
+}
+
+fn listed(alloc: Global, word: &[u64], items: &[i64]) -> Result<SimplexText, AllocError> {
+    let mut degens = new_seq(alloc);
+    for j in word {
+        degens.push(*j)?;
+    }
+    let mut list = new_seq(alloc);
+    for a in items {
+        list.push(*a)?;
+    }
+    Ok(SimplexText {
+        degens,
+        body: BodyText::Ints(list),
+    })
+}
+
+fn in_integers(alloc: Global, n: u32, text: &SimplexText) -> Result<String, AllocError>
+    requires { n ≤ 16 }
+{
+    shown(alloc, &Term::KZ1, n, text)
+}
+
+fn in_suspension(alloc: Global, n: u32, text: &SimplexText) -> Result<String, AllocError>
+    requires { n ≤ 16 }
+{
+    let term = Term::Suspension(Box::new(alloc, Term::KZ1)?);
+    shown(alloc, &term, n, text)
+}
+
+// `^` of a text behind the degeneracies of a word.
+fn raised(alloc: Global, word: &[u64], text: SimplexText) -> Result<SimplexText, AllocError> {
+    let mut degens = new_seq(alloc);
+    for j in word {
+        degens.push(*j)?;
+    }
+    Ok(SimplexText {
+        degens,
+        body: BodyText::Up(Box::new(alloc, text)?),
+    })
+}
+
+#[test]
+fn simplices_of_the_integers(rt: HostRuntime) -> Result<(), Fail> {
+    let alloc = rt.alloc();
+    for (n, items, expected) in [
+        (2, [0, 3].as_slice(), "1 Ints 3"),
+        (1, [2, 3].as_slice(), "NoSimplex"),
+        (1, [100_000].as_slice(), "0 Ints 100000"),
+        (1, [100_001].as_slice(), "Over Integer 100001"),
+    ] {
+        let text = listed(alloc, &[], items)?;
+        let answer = in_integers(alloc, n, &text)?;
+        assert_eq!(rt; answer.as_str(), expected);
+    }
+    Ok(())
+}
+
+#[test]
+fn simplices_of_a_suspension(rt: HostRuntime) -> Result<(), Fail> {
+    let alloc = rt.alloc();
+    let base = written(&rt, alloc, &[], "*")?;
+    let answer = in_suspension(alloc, 0, &base)?;
+    assert_eq!(rt; answer.as_str(), "0 Base");
+    for (n, word, below, items, expected) in [
+        (
+            2,
+            [].as_slice(),
+            [].as_slice(),
+            [1].as_slice(),
+            "0 Up Ints 1",
+        ),
+        (2, [].as_slice(), [0].as_slice(), [].as_slice(), "3 Base"),
+        (
+            3,
+            [].as_slice(),
+            [].as_slice(),
+            [0, 3].as_slice(),
+            "2 Up Ints 3",
+        ),
+        (
+            3,
+            [1].as_slice(),
+            [].as_slice(),
+            [4].as_slice(),
+            "2 Up Ints 4",
+        ),
+    ] {
+        let text = raised(alloc, word, listed(alloc, below, items)?)?;
+        let answer = in_suspension(alloc, n, &text)?;
+        assert_eq!(rt; answer.as_str(), expected);
+    }
+    Ok(())
 }
 
 #[test]

@@ -4,18 +4,19 @@ ghost use Rattle.std.specs.Cmp.Lexicographic.{pointwise};
 ghost use Rattle.std.specs.Fmt.{decimal};
 ghost use Rattle.simp_ops.specs.Bits.{mask_word};
 ghost use Rattle.spaces.specs.Allowed.{IsAllowed};
-ghost use Rattle.spaces.specs.Spaces.{table, sphere};
+ghost use Rattle.spaces.specs.Spaces.{table, sphere, suspension};
 ghost use Rattle.term_lang.specs.Quote.{row_cell};
 ghost use Rattle.term_lang.specs.Rows.{rows_of};
 ghost use Rattle.term_lang.specs.SpaceOf.{space_of};
-ghost use Rattle.script_lang.specs.Meaning.{is_prefix, mapped, named_row};
-ghost use Rattle.oracle_iface.specs.Built.{IsBuilt};
-ghost use Rattle.script_lang.specs.Resolved.{IsRead, IsFault, body_cell};
+ghost use Rattle.script_lang.specs.Meaning.{is_prefix, mapped, meaning, named_row};
+ghost use Rattle.normal_forms.specs.Built.{IsBuilt};
+ghost use Rattle.script_lang.specs.Resolved.{IsRead, IsFault, IsFound, body_cell, body_meaning};
 
+use crate::forms::{bare, listed, raised};
 use crate::simplices::{BodyText, SimplexText};
 use cells::{Cell, Simplex};
-use oracle_iface::Kind;
-use simp_ops::Degens;
+use oracle_iface::{Kind, Size, integer_of, letters_of, past};
+use simp_ops::{Degens, compose};
 use std::alloc::{AllocError, Global};
 use term_lang::{Name, Row, Table, Term};
 use thiserror::Error;
@@ -34,11 +35,11 @@ pub enum ResolveFault {
     Memory,
 }
 
-/// The simplex in normal form that a text means in a space and a degree, for a table or a sphere and a
-/// degree of at most 16. `NoSimplex` exactly where it means none: where its prefix is not strictly
-/// decreasing from an index below the degree, or its body is no cell in the degree that is left. `Over`
-/// exactly where it means one past a limit on letters or integers, which none of these spaces has (Kenzo
-/// documentation, 1999, on geometric simplices; May, Simplicial Objects, chapter I).
+/// The simplex in normal form that a text means in a space and a degree of at most 16, for a construction
+/// that is built. `NoSimplex` exactly where it means none: where its prefix is not strictly decreasing from
+/// an index below the degree, or its body means no simplex in the degree that is left. `Over` exactly where
+/// it means one whose normal form is past a limit on letters or integers, with the first such kind and the
+/// size (Kenzo documentation, 1999, on geometric simplices; May, Simplicial Objects, chapter I).
 pub fn resolve(alloc: Global, t: &Term, n: u32, text: &SimplexText) -> Result<Simplex, ResolveFault>
     requires allowed { IsAllowed (space_of t.now) }
     requires built { IsBuilt (space_of t.now) }
@@ -46,18 +47,100 @@ pub fn resolve(alloc: Global, t: &Term, n: u32, text: &SimplexText) -> Result<Si
     ensures simplex { IfOk result (λ x. IsRead text.now (space_of t.now) n x) }
     ensures fault { IfErr result (λ f. IsFault text.now (space_of t.now) n f) }
 {
-    let indices = text.degens.as_slice();
-    let Some(degens) = prefix_of(n, indices) else {
-        return Err(ResolveFault::NoSimplex);
-    };
-    let lower = n - indices.len() as u32;
-    let Ok(found) = cell_of(alloc, t, lower, &text.body) else {
+    let Ok(found) = simplex_of(alloc, t, n, text) else {
         return Err(ResolveFault::Memory);
     };
-    let Some(cell) = found else {
+    let Some(simplex) = found else {
         return Err(ResolveFault::NoSimplex);
     };
-    Ok(Simplex { degens, cell })
+    let size = Size {
+        letters: letters_of(&simplex.cell),
+        integer: integer_of(&simplex.cell),
+        terms: 0,
+    };
+    match past(&size) {
+        Some((kind, most)) => Err(ResolveFault::Over(kind, most)),
+        None => Ok(simplex),
+    }
+}
+
+// The simplex of degree n that a text means, if it means one: its prefix before what its body means.
+#[cycle(found)]
+fn simplex_of(
+    alloc: Global,
+    t: &Term,
+    n: u32,
+    text: &SimplexText,
+) -> Result<Option<Simplex>, AllocError>
+    requires allowed { IsAllowed (space_of t.now) }
+    requires built { IsBuilt (space_of t.now) }
+    requires degree { n ≤ 16 }
+    ensures { IfOk result (λ x. IsFound (space_of t.now) n (meaning text.now (space_of t.now) n) x) }
+{
+    let indices = text.degens.as_slice();
+    let Some(degens) = prefix_of(n, indices) else {
+        return Ok(None);
+    };
+    let lower = n - indices.len() as u32;
+    match body_of(alloc, t, lower, &text.body)? {
+        Some(x) => Ok(Some(Simplex {
+            degens: compose(degens, x.degens),
+            cell: x.cell,
+        })),
+        None => Ok(None),
+    }
+}
+
+// The simplex of degree n that a body means, if it means one.
+#[cycle(found)]
+fn body_of(alloc: Global, t: &Term, n: u32, body: &BodyText) -> Result<Option<Simplex>, AllocError>
+    requires allowed { IsAllowed (space_of t.now) }
+    requires built { IsBuilt (space_of t.now) }
+    requires degree { n ≤ 16 }
+    ensures { IfOk result (λ x. IsFound (space_of t.now) n (body_meaning body.now (space_of t.now) n) x) }
+{
+    match t {
+        Term::Table(rows) => Ok(bare(table_cell(rows, n, body))),
+        Term::Sphere(m) => Ok(bare(sphere_cell(alloc, *m, n, body)?)),
+        Term::Suspension(part) => suspended(alloc, part.get(), n, body),
+        Term::KZ1 => listed(alloc, n, body),
+        _ => unreachable!(),
+    }
+}
+
+// In a suspension of a part, `*` means the base in degree 0, and `^x` is Up of what x means in the part,
+// one degree below.
+#[cycle(found)]
+fn suspended(
+    alloc: Global,
+    part: &Term,
+    n: u32,
+    body: &BodyText,
+) -> Result<Option<Simplex>, AllocError>
+    requires allowed { IsAllowed (suspension (space_of part.now)) }
+    requires built { IsBuilt (space_of part.now) }
+    requires degree { n ≤ 16 }
+    ensures { IfOk result (λ x. IsFound (suspension (space_of part.now)) n (body_meaning body.now (suspension (space_of part.now)) n) x) }
+{
+    match body {
+        BodyText::Star => {
+            if n == 0 {
+                Ok(bare(Some(Cell::Base)))
+            } else {
+                Ok(None)
+            }
+        }
+        BodyText::Up(x) => {
+            if n == 0 {
+                return Ok(None);
+            }
+            match simplex_of(alloc, part, n - 1, x.get())? {
+                Some(y) => Ok(Some(raised(alloc, y)?)),
+                None => Ok(None),
+            }
+        }
+        _ => Ok(None),
+    }
 }
 
 // The word of a prefix for the degree n, or None exactly where the indices do not decrease strictly or
@@ -77,19 +160,6 @@ fn prefix_of(n: u32, indices: &[u64]) -> Option<Degens>
         bound = *j;
     }
     Some(Degens { mask })
-}
-
-// The cell of dimension n that a body means in a table or a sphere, if it means one.
-fn cell_of(alloc: Global, t: &Term, n: u32, body: &BodyText) -> Result<Option<Cell>, AllocError>
-    requires allowed { IsAllowed (space_of t.now) }
-    requires built { IsBuilt (space_of t.now) }
-    ensures { IfOk result (λ cell. cell ≡ body_cell body.now (space_of t.now) n) }
-{
-    match t {
-        Term::Table(rows) => Ok(table_cell(rows, n, body)),
-        Term::Sphere(m) => sphere_cell(alloc, *m, n, body),
-        _ => unreachable!(),
-    }
 }
 
 // In a table a body means the row of its name, and `*` the row of the name `*`.

@@ -20,8 +20,8 @@ use Rattle.oracle_iface.specs.Terms.{term_of}
 use Rattle.oracle_iface.specs.KeyLaws.{IsNamed, HasCells}
 use Rattle.oracle_iface.proofs.Named.{named-space, term-back}
 use Rattle.oracle_iface.proofs.KeysBack.{valid-back, valid-key}
-use Rattle.oracle_iface.specs.Built.{IsBuilt, IsTreated}
-use Rattle.space_faces.proofs.BuiltForms.{built_cells}
+use Rattle.normal_forms.specs.Built.{IsBuilt, IsTreated}
+use Rattle.normal_forms.proofs.BuiltForms.{built_cells}
 use Rattle.session_core.specs.Lines.{keys_asked}
 use Rattle.session_core.specs.Questions.{differentials, dimension_in, degrees_from, dimensions}
 use Rattle.session_core.specs.Whole.{IsReady}

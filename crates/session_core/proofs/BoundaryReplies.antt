@@ -14,7 +14,7 @@ use Rattle.script_lang.specs.declared.exprs.Expr.{Expr}
 use Rattle.script_lang.specs.declared.simplices.ChainText.{ChainText}
 use Rattle.script_lang.specs.declared.commands.Command.TheVariants as commands
 use Rattle.space_faces.specs.Boundaries.{IsLowCell, graded_chain, boundary_of as d_of}
-use Rattle.space_faces.proofs.BuiltForms.{built_cells}
+use Rattle.normal_forms.proofs.BuiltForms.{built_cells}
 use Rattle.space_faces.proofs.ShownChains.{chain_low, chain_back}
 use Rattle.reply_text.specs.declared.replies.Reply.TheVariants as replies
 use Rattle.session_core.specs.declared.stops.Stop.{Stop}
@@ -28,7 +28,7 @@ use Rattle.session_core.proofs.Told.{stops_on, stops_later, is_told}
 
 module _ (p : Prime) (X : Space) (ready : IsReady X) (c : Formal Cell) (z : Terms (GradedCell X)) (stands : StandsFor p X c z) where
   pub cells_low : EachKey (IsLowCell X) c.terms
-  cells_low = subst (λ (d : Formal Cell). EachKey (IsLowCell X) d.terms) (sym stands.is) (chain_low X (built_cells X ready.0 ready.1) z stands.shown)
+  cells_low = subst (λ (d : Formal Cell). EachKey (IsLowCell X) d.terms) (sym stands.is) (chain_low X (built_cells X ready.0 ready.1) ready.0.0 z stands.shown stands.bounded)
 
   -- the cells of the code are those of the chain
   pub graded_back : graded_chain X c.terms ≡ z

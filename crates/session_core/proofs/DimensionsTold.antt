@@ -83,5 +83,5 @@ module _ (p : Prime) (t : Term) (ready : IsReady (space_of t)) (low high : ℕ) 
     pub comes : (x : Answered (List ℕ)) → ComesAlong calls ours (λ ds. ds ≡ dimensions_at k low m) s u x → Comes (told_value p t 0 (dimensions q a low high)) x
     comes (IsTold ds) c =
         told-none p t 0 (dimensions q a low high) back (sym alike.refusal ∙ c.0)
-        ∙ ap told (dimensions-value (value q) q a low m ∙ sym (dimensions-told p t ready.0 (ready-shown q a ready) low m bound c.0) ∙ sym c.1)
+        ∙ ap told (dimensions-value (value q) q a low m ∙ sym (dimensions-told p t ready.0 (ready-shown p a ready) low m bound c.0) ∙ sym c.1)
     comes (IsRefused w) c = told-some p t 0 (dimensions q a low high) back w (sym alike.refusal ∙ c.0)

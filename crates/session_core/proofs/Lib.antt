@@ -54,3 +54,5 @@ pub mod TypedDimensions
 pub mod ToldByKeys
 pub mod PartsSides
 pub mod PartsTold
+pub mod SuspensionFaults
+pub mod SuspensionsTold

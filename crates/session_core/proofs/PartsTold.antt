@@ -102,7 +102,7 @@ module _ (p : Prime) (t : Term) (ready : IsReady (space_of t)) (n : ℕ) (most :
   z = graded_chain a code
 
   shown : HasShownValues q a
-  shown = ready-shown q a ready
+  shown = ready-shown p a ready
 
   flat : loopings a ≡ 0
   flat = no_loopings a ready.1

@@ -4,10 +4,11 @@ use Rattle.std.proofs.lemmas.Bool.{cases_lt}
 use Rattle.simp_ops.proofs.PlacesOf.{is_eq, is_lt}
 use Rattle.spaces.specs.Spaces.{table}
 use Rattle.term_lang.specs.declared.terms.Term.{Term}
-use Rattle.term_lang.specs.declared.terms.Term.TheVariants.{Sphere as SphereTerm}
+use Rattle.term_lang.specs.declared.terms.Term.TheVariants.{Sphere as SphereTerm, Suspension as SuspensionTerm, KZ1 as KZ1Term}
 use Rattle.term_lang.specs.declared.texts.RowText.{RowText}
 use Rattle.term_lang.specs.SpaceOf.{space_of}
-use Rattle.term_lang.proofs.SpacesOfTerms.{space-Sphere}
+use Rattle.term_lang.specs.TermFaults.{Fault, own_fault}
+use Rattle.term_lang.proofs.SpacesOfTerms.{space-Sphere, space-KZ1}
 use Rattle.finite_sets.specs.Meaning.{meaning_of}
 use Rattle.finite_sets.specs.Faults.{fault_of}
 use Rattle.finite_sets.specs.declared.faults.TableFault.{TableFault}
@@ -15,14 +16,15 @@ use Rattle.finite_sets.proofs.TableFaults.{table_from}
 use Rattle.oracle_iface.specs.Terms.{term_of}
 use Rattle.script_lang.specs.declared.commands.Command.{Command}
 use Rattle.script_lang.specs.declared.commands.Command.TheVariants as commands
-use Rattle.script_lang.specs.declared.exprs.Expr.{Expr, out-Expr, roll-out-Expr, map-Expr}
+use Rattle.script_lang.specs.declared.exprs.Expr.{Expr, roll-Expr, map-Expr, ind-Expr}
 use Rattle.script_lang.specs.declared.exprs.Expr.TheOpen.{Expr-F}
 use Rattle.reply_text.specs.declared.refusals.Refusal.TheVariants as refusals
-use Rattle.session_core.specs.Answer.{Names, State, Told, told, refused, ◌>>◌, Replied, is_name, lookup, defined, named_space, table_refusal, told_table, told_sphere, space_step, told_space, answer}
+use Rattle.session_core.specs.Answer.{Names, State, Told, told, refused, ◌>>◌, Replied, is_name, lookup, defined, named_space, table_refusal, told_table, told_sphere, term_refusal, told_suspension, space_step, told_space, answer}
 use Rattle.session_core.specs.Kept.{is_question}
 use Rattle.session_core.specs.Lines.{answer_told, told_line, answer_bytes}
 use Rattle.session_core.specs.Whole.{IsReady, AreReady, IsWhole}
 use Rattle.session_core.proofs.Layers.{rolled}
+use Rattle.session_core.proofs.SuspensionFaults.{ready_suspension}
 use Rattle.session_core.proofs.TableNames.{table-named}
 use Rattle.session_core.proofs.Unchanged.{Each, each-answer, question-same, field-names}
 
@@ -99,22 +101,36 @@ ready-sphere n = by (is_bad n) refl
     by true e = tt
     by false e = let d = good_dimension n e in ready-dimension n d.0 d.1
 
+-- a suspension that is told of a part that is ready
+ready-suspension : (m : Told Term) → Ready m → Ready (told_suspension m)
+ready-suspension (refused r) h = tt
+ready-suspension (told part) h = by (own_fault (space_of (SuspensionTerm part))) refl
+  where
+    by : (o : Fault) → own_fault (space_of (SuspensionTerm part)) ≡ o → Ready (elim o [ Some fault ↦ refused (term_refusal fault) | None ↦ told (SuspensionTerm part) ])
+    by (Some fault) e = tt
+    by None e = ready_suspension part h e
+
+pub ready_integers : IsReadyTerm KZ1Term
+ready_integers = subst IsReady (sym space-KZ1) ((tt, omega arith), tt)
+
 module _ (names : Names) (h : AreReady names) where
-  ready-step : (y : Expr-F (Told Term)) → Ready (space_step names y)
-  ready-step (Expr-F.Name name) = ready-named names name h
-  ready-step (Expr-F.Sphere n) = ready-sphere n
-  ready-step (Expr-F.Table rows) = ready-table rows
-  ready-step (Expr-F.Product a b) = tt
-  ready-step (Expr-F.Suspension a) = tt
-  ready-step Expr-F.KZ1 = tt
-  ready-step (Expr-F.Loop a) = tt
-  ready-step (Expr-F.Path a) = tt
-  ready-step (Expr-F.Bundle a values) = tt
+  module _ (S : Type 0) (f : S → Expr) (part : (s : S) → Ready (told_space names (f s))) where
+    ready-step : (y : Expr-F S) → Ready (space_step names (map-Expr Expr (Told Term) (told_space names) (map-Expr S Expr f y)))
+    ready-step (Expr-F.Name name) = ready-named names name h
+    ready-step (Expr-F.Sphere n) = ready-sphere n
+    ready-step (Expr-F.Table rows) = ready-table rows
+    ready-step (Expr-F.Product a b) = tt
+    ready-step (Expr-F.Suspension a) = ready-suspension (told_space names (f a)) (part a)
+    ready-step Expr-F.KZ1 = ready_integers
+    ready-step (Expr-F.Loop a) = tt
+    ready-step (Expr-F.Path a) = tt
+    ready-step (Expr-F.Bundle a values) = tt
+
+    ready-level : (y : Expr-F S) → Ready (told_space names (roll-Expr (map-Expr S Expr f y)))
+    ready-level y = subst Ready (sym (rolled names (map-Expr S Expr f y))) (ready-step y)
 
   pub ready-space : (e : Expr) → Ready (told_space names e)
-  ready-space e =
-      subst (λ x. Ready (told_space names x)) (roll-out-Expr e)
-      (subst Ready (sym (rolled names (out-Expr e))) (ready-step (map-Expr Expr (Told Term) (told_space names) (out-Expr e))))
+  ready-space e = ind-Expr (λ e. Ready (told_space names e)) (λ x y e. subst (λ z. Ready (told_space names (roll-Expr z))) e (ready-level _ (λ s. s.0) (λ s. s.1) y)) e
 
 -- ---- names
 

@@ -23,8 +23,8 @@ use Rattle.oracle_iface.specs.declared.bodies.Kind.{Kind}
 use Rattle.oracle_iface.specs.Keys.{quote_chain}
 use Rattle.oracle_iface.specs.CodeSizes.{terms_size}
 use Rattle.oracle_iface.specs.Limits.{kind_past}
-use Rattle.oracle_iface.specs.Built.{IsBuilt}
-use Rattle.space_faces.proofs.BuiltForms.{built_cells}
+use Rattle.normal_forms.specs.Built.{IsBuilt}
+use Rattle.normal_forms.proofs.BuiltForms.{built_cells}
 use Rattle.homology_laws.proofs.CellChains.{plain-chain, plain-d, d-cells, no-boundary}
 use Rattle.script_lang.specs.declared.commands.Command.TheVariants as commands
 use Rattle.script_lang.specs.declared.exprs.Expr.{Expr}

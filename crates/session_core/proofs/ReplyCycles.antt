@@ -1,12 +1,12 @@
 -- The cycles of a reply stand for a homology list.
-use Rattle.std.proofs.Common.{◌≡◌, ℕ, ◌≤◌, false, List, [], ◌∷◌, map, refl, sym, ◌∙◌, ap, subst, arith}
+use Rattle.std.proofs.Common.{◌≡◌, ℕ, suc, ◌≤◌, false, List, [], ◌∷◌, map, refl, sym, ◌∙◌, ap, subst, arith}
 use Rattle.std.proofs.lemmas.List.Elements.{All-map, recursion_from_All}
 use Rattle.std.specs.List.{All, AllByRecursion as EachOf}
 use Rattle.fp_field.specs.declared.prime.Prime.{Prime}
 use Rattle.fp_field.specs.Field.{number, IsField}
 use Rattle.fp_field.specs.Chains.{Terms, Each}
 use Rattle.fp_field.proofs.FieldLaws.{is_field}
-use Rattle.spaces.specs.Spaces.{Space, table, sphere, product, suspension, kz1, bundle, loops, paths, kzm1, cyclic_bundle, set_of}
+use Rattle.spaces.specs.Spaces.{Space, set_of}
 use Rattle.spaces.specs.Homology.{HomologyList}
 use Rattle.spaces.specs.Simplicial.{is_degenerate}
 use Rattle.spaces.specs.Allowed.{IsAllowed}
@@ -15,17 +15,19 @@ use Rattle.term_lang.specs.SpaceOf.{space_of}
 use Rattle.values.specs.Asks.{cycles, ask, Cell as GradedCell}
 use Rattle.values.specs.Values.{value}
 use Rattle.values.specs.Laws.{cells, plain_chain}
+use Rattle.values.proofs.BasesCells.{basis-degree, basis-rising}
+use Rattle.values.proofs.BasesRows.{simple-given_back}
 use Rattle.oracle_iface.specs.Keys.{quote_chain}
 use Rattle.oracle_iface.specs.KeyLaws.{HasCells, IsShown}
-use Rattle.oracle_iface.specs.Built.{IsBuilt}
+use Rattle.normal_forms.specs.Built.{IsBuilt}
 use Rattle.space_faces.specs.Boundaries.{graded}
-use Rattle.space_faces.proofs.BuiltForms.{built_cells}
+use Rattle.normal_forms.proofs.BuiltForms.{built_cells}
 use Rattle.space_faces.proofs.ShownChains.{chain_back}
 use Rattle.homology_laws.specs.Lists.{IsCycleOf}
 use Rattle.homology_laws.specs.Kernel.{IsListable}
 use Rattle.homology_laws.proofs.Sums.{Each-weaker, map-map}
 use Rattle.homology_laws.proofs.Kernel.{listed-homology, listed-cells}
-use Rattle.homology_laws.proofs.TableLists.{table-listable, sphere-listable}
+use Rattle.susp_rules.proofs.BuiltSpaces.{built_simple, built_reduction}
 use Rattle.script_lang.specs.declared.commands.Command.TheVariants as commands
 use Rattle.script_lang.specs.declared.exprs.Expr.{Expr}
 use Rattle.reply_text.specs.declared.replies.Reply.{Reply}
@@ -46,16 +48,13 @@ pub ready-told : (s : State) → IsWhole s → (e : Expr) (t : Term) → told_sp
 ready-told s whole e t here = subst Ready here (ready-space s.names whole e)
 
 pub built-listable : (p : ℕ) → IsField p → (a : Space) (n : ℕ) → IsAllowed a → IsBuilt a → IsListable p a n
-built-listable p field (table t) n is built = table-listable p field t n is.0
-built-listable p field (sphere m) n is built = sphere-listable p field m n is
-built-listable p field (product a b) n is built = absurd built
-built-listable p field (suspension a) n is built = absurd built
-built-listable p field kz1 n is built = absurd built
-built-listable p field (bundle t c) n is built = absurd built
-built-listable p field (loops a) n is built = absurd built
-built-listable p field (paths a) n is built = absurd built
-built-listable p field (kzm1 m) n is built = absurd built
-built-listable p field (cyclic_bundle t m c) n is built = absurd built
+built-listable p field a n is built = record {
+  allowed = is;
+  reduction = built_reduction p field a is built (suc n);
+  here = record { degrees = basis-degree p a n; rises = basis-rising p a n };
+  above = record { degrees = basis-degree p a (suc n); rises = basis-rising p a (suc n) };
+  given = simple-given_back p (cycles a n) (built_simple a built);
+}
 
 -- ---- chains of cells, as the code has them
 

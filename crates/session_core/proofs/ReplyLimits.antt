@@ -14,6 +14,7 @@ use Rattle.spaces.specs.SmallCells.{Small, small_cmp}
 use Rattle.spaces.specs.Orders.{ordered, by_degree}
 use Rattle.cells.specs.declared.cells.Cell.{Cell}
 use Rattle.term_lang.specs.declared.terms.Term.{Term}
+use Rattle.term_lang.specs.declared.terms.Term.TheVariants.{Suspension as SuspensionTerm}
 use Rattle.term_lang.specs.SpaceOf.{space_of}
 use Rattle.values.specs.Asks.{Ask, Answer, basis, small_d, f as f_at, g as g_at, h as h_at, cycles, Right, gives, asks, ask, each, across, ◌>>=◌, value_with, asked_with}
 use Rattle.values.specs.Values.{value, right_side}
@@ -28,18 +29,19 @@ use Rattle.values.proofs.BasesRows.{simple-given_back, simple-outcome_back}
 use Rattle.homology_laws.specs.Lists.{IsBase, HasKeys}
 use Rattle.homology_laws.specs.Kernel.{IsListable}
 use Rattle.homology_laws.proofs.Reduced.{base-keys, no-keys}
+use Rattle.homology_laws.proofs.TableLists.{table-listable, sphere-listable}
 use Rattle.homology_laws.proofs.Kernel.{rising-base, listed, listed-is, listed-count}
 use Rattle.script_lang.specs.declared.commands.Command.TheVariants as commands
-use Rattle.script_lang.specs.declared.exprs.Expr.{Expr, out-Expr, roll-out-Expr, map-Expr}
+use Rattle.script_lang.specs.declared.exprs.Expr.{Expr, roll-Expr, map-Expr, ind-Expr}
 use Rattle.script_lang.specs.declared.exprs.Expr.TheOpen.{Expr-F}
 use Rattle.reply_text.specs.declared.refusals.Refusal.TheVariants as refusals
 use Rattle.reply_text.specs.declared.replies.Reply.TheVariants as replies
 use Rattle.session_core.specs.Questions.{differentials, dimension_in, degrees_from, dimensions}
-use Rattle.session_core.specs.Answer.{Names, State, Told, told, told_space, told_degree, told_unless, told_value, printed, unbuilt_step, is_unbuilt, space_step, answer}
-use Rattle.session_core.specs.Whole.{IsReady, IsWhole}
+use Rattle.session_core.specs.Answer.{Names, State, Told, told, told_space, told_degree, told_unless, told_value, told_whole, printed, unbuilt_step, is_unbuilt, space_step, answer}
+use Rattle.session_core.specs.Whole.{IsReady, IsWhole, HasRows}
 use Rattle.session_core.proofs.Layers.{rolled, rolled_unbuilt, told-first}
-use Rattle.session_core.proofs.ReplyParts.{told_from, answer-told, not-told}
-use Rattle.session_core.proofs.ReplyCycles.{built-listable, ready-told}
+use Rattle.session_core.proofs.ReplyParts.{told_from, answer-told, not-told, told-parts}
+use Rattle.session_core.proofs.ReplyCycles.{ready-told}
 use Rattle.session_core.proofs.ReplySizes.{IsBare, bare-table, bare-sphere, HasLowRows, low-table, low-sphere, basis-few, small_d-few, normal-length, extend-length, basis-within, small_d-within, f-within, g-within, h-within, cycles-within, small_d-place, g-place, f-place, h-place}
 
 -- ---- questions that meet no limit
@@ -172,62 +174,70 @@ module _ (p : ℕ) where
 -- ---- tables and spheres
 
 module _ (p : ℕ) (field : IsField p) where
-  pub all-met : (a : Space) → IsReady a → AreMet p a
-  all-met (table t) r = table-met p t (low-table t r.0.0)
-  all-met (sphere m) r = sphere-met p m (low-sphere m r.0.0.1)
-  all-met (product a b) r = absurd r.1
-  all-met (suspension a) r = absurd r.1
-  all-met kz1 r = absurd r.1
-  all-met (bundle t c) r = absurd r.1
-  all-met (loops a) r = absurd r.1
-  all-met (paths a) r = absurd r.1
-  all-met (kzm1 m) r = absurd r.1
-  all-met (cyclic_bundle t m c) r = absurd r.1
+  pub all-met : (a : Space) → IsReady a → HasRows a → AreMet p a
+  all-met (table t) r rows = table-met p t (low-table t r.0.0)
+  all-met (sphere m) r rows = sphere-met p m (low-sphere m r.0.0.1)
+  all-met (product a b) r rows = absurd rows
+  all-met (suspension a) r rows = absurd rows
+  all-met kz1 r rows = absurd rows
+  all-met (bundle t c) r rows = absurd rows
+  all-met (loops a) r rows = absurd rows
+  all-met (paths a) r rows = absurd rows
+  all-met (kzm1 m) r rows = absurd rows
+  all-met (cyclic_bundle t m c) r rows = absurd rows
 
-  pub all-cycles : (a : Space) (n : ℕ) → IsReady a → IsMet p (cycles a n)
-  all-cycles (table t) n r =
-      cycles-met p field (table t) (bare-table t) tt (all-met (table t) r) n (built-listable p field (table t) n r.0 r.1) (basis-few p t (low-table t r.0.0) n) (λ y. omega arith)
-      (λ k e. built-listable p field (table t) k r.0 r.1)
-  all-cycles (sphere m) n r =
-      cycles-met p field (sphere m) (bare-sphere m) tt (all-met (sphere m) r) n (built-listable p field (sphere m) n r.0 r.1) (basis-few p (sphere_rows m) (low-sphere m r.0.0.1) n) (λ y. omega arith)
-      (λ k e. built-listable p field (sphere m) k r.0 r.1)
-  all-cycles (product a b) n r = absurd r.1
-  all-cycles (suspension a) n r = absurd r.1
-  all-cycles kz1 n r = absurd r.1
-  all-cycles (bundle t c) n r = absurd r.1
-  all-cycles (loops a) n r = absurd r.1
-  all-cycles (paths a) n r = absurd r.1
-  all-cycles (kzm1 m) n r = absurd r.1
-  all-cycles (cyclic_bundle t m c) n r = absurd r.1
+  pub all-cycles : (a : Space) (n : ℕ) → IsReady a → HasRows a → IsMet p (cycles a n)
+  all-cycles (table t) n r rows =
+      cycles-met p field (table t) (bare-table t) tt (all-met (table t) r tt) n (table-listable p field t n r.0.0) (basis-few p t (low-table t r.0.0) n) (λ y. omega arith)
+      (λ k e. table-listable p field t k r.0.0)
+  all-cycles (sphere m) n r rows =
+      cycles-met p field (sphere m) (bare-sphere m) tt (all-met (sphere m) r tt) n (sphere-listable p field m n r.0) (basis-few p (sphere_rows m) (low-sphere m r.0.0.1) n) (λ y. omega arith)
+      (λ k e. sphere-listable p field m k r.0)
+  all-cycles (product a b) n r rows = absurd rows
+  all-cycles (suspension a) n r rows = absurd rows
+  all-cycles kz1 n r rows = absurd rows
+  all-cycles (bundle t c) n r rows = absurd rows
+  all-cycles (loops a) n r rows = absurd rows
+  all-cycles (paths a) n r rows = absurd rows
+  all-cycles (kzm1 m) n r rows = absurd rows
+  all-cycles (cyclic_bundle t m c) n r rows = absurd rows
 
-  free-differentials : (a : Space) (n : ℕ) → IsReady a → IsFree p (differentials p a n)
-  free-differentials a n r =
-      let met = all-met a r in
+  free-differentials : (a : Space) (n : ℕ) → IsReady a → HasRows a → IsFree p (differentials p a n)
+  free-differentials a n r rows =
+      let met = all-met a r rows in
       (met.basis_met n, λ ys. free-bind p (each (λ y. ask (small_d a y)) ys) _ (free-each p (λ y. ask (small_d a y)) ys (λ y. (met.small_d_met y, λ v. tt))) (λ ds. tt))
 
-  free-dimensions : (a : Space) (low high : ℕ) → IsReady a → IsFree p (dimensions p a low high)
-  free-dimensions a low high r =
+  free-dimensions : (a : Space) (low high : ℕ) → IsReady a → HasRows a → IsFree p (dimensions p a low high)
+  free-dimensions a low high r rows =
       free-each p (dimension_in p a) (degrees_from p a low (suc high - low))
-      (λ n. free-bind p (differentials p a n) _ (free-differentials a n r) (λ here. free-bind p (differentials p a (suc n)) _ (free-differentials a (suc n) r) (λ above. tt)))
+      (λ n. free-bind p (differentials p a n) _ (free-differentials a n r rows) (λ here. free-bind p (differentials p a (suc n)) _ (free-differentials a (suc n) r rows) (λ above. tt)))
 
 -- ---- replies
 
 -- a space that is told has no construction that is not built
-told-built : (names : Names) (e : Expr) (t : Term) → told_space names e ≡ told t → is_unbuilt e ≡ false
-told-built names e t h =
-    sym (ap is_unbuilt (roll-out-Expr e)) ∙ rolled_unbuilt (out-Expr e)
-    ∙ by (out-Expr e) (sym (rolled names (out-Expr e)) ∙ ap (told_space names) (roll-out-Expr e) ∙ h)
-  where
-    by : (y : Expr-F Expr) → space_step names (map-Expr Expr (Told Term) (told_space names) y) ≡ told t → unbuilt_step (map-Expr Expr Bool is_unbuilt y) ≡ false
-    by (Expr-F.Name name) k = refl
-    by (Expr-F.Sphere n) k = refl
-    by (Expr-F.Table rows) k = refl
-    by (Expr-F.Product a b) k = absurd (not-told refusals.NotBuilt t k)
-    by (Expr-F.Suspension a) k = absurd (not-told refusals.NotBuilt t k)
-    by Expr-F.KZ1 k = absurd (not-told refusals.NotBuilt t k)
-    by (Expr-F.Loop a) k = absurd (not-told refusals.NotBuilt t k)
-    by (Expr-F.Path a) k = absurd (not-told refusals.NotBuilt t k)
-    by (Expr-F.Bundle a values) k = absurd (not-told refusals.NotBuilt t k)
+module _ (names : Names) where
+  abbrev IsBuiltIfTold : Expr → Type 0
+  IsBuiltIfTold e = (t : Term) → told_space names e ≡ told t → is_unbuilt e ≡ false
+
+  module _ (S : Type 0) (f : S → Expr) (part : (s : S) → IsBuiltIfTold (f s)) where
+    built-step : (y : Expr-F S) (t : Term) → space_step names (map-Expr Expr (Told Term) (told_space names) (map-Expr S Expr f y)) ≡ told t
+        → unbuilt_step (map-Expr Expr Bool is_unbuilt (map-Expr S Expr f y)) ≡ false
+    built-step (Expr-F.Name name) t k = refl
+    built-step (Expr-F.Sphere n) t k = refl
+    built-step (Expr-F.Table rows) t k = refl
+    built-step (Expr-F.Product a b) t k = absurd (not-told refusals.NotBuilt t k)
+    built-step (Expr-F.Suspension a) t k =
+        let first = told-parts (told_space names (f a)) (λ x. told_whole (SuspensionTerm x)) t k in part a first.0 first.1
+    built-step Expr-F.KZ1 t k = refl
+    built-step (Expr-F.Loop a) t k = absurd (not-told refusals.NotBuilt t k)
+    built-step (Expr-F.Path a) t k = absurd (not-told refusals.NotBuilt t k)
+    built-step (Expr-F.Bundle a values) t k = absurd (not-told refusals.NotBuilt t k)
+
+    built-level : (y : Expr-F S) → IsBuiltIfTold (roll-Expr (map-Expr S Expr f y))
+    built-level y t h = rolled_unbuilt (map-Expr S Expr f y) ∙ built-step y t (sym (rolled names (map-Expr S Expr f y)) ∙ h)
+
+  told-built : (e : Expr) (t : Term) → told_space names e ≡ told t → is_unbuilt e ≡ false
+  told-built e = ind-Expr IsBuiltIfTold (λ x y e. subst (λ z. IsBuiltIfTold (roll-Expr z)) e (built-level _ (λ s. s.0) (λ s. s.1) y)) e
 
 low-degree : (n : ℕ) → n ≤ 16 → told_degree n ≡ told n
 low-degree n l = let e : nat_lt 16 n ≡ false = grind (arith, nat_tests) in ap (λ b. told_unless b (refusals.Degree n) n) e
@@ -235,13 +245,13 @@ low-degree n l = let e : nat_lt 16 n ≡ false = grind (arith, nat_tests) in ap 
 value-free : (p : Prime) (t : Term) (n : ℕ) {A : Type 0} (r : Right A) → IsFree (number p) r → told_value p t n r ≡ told (value_with (value (number p)) r)
 value-free p t n r h = ap (told_from p) (read-value (number p) r (free-asked (number p) r h))
 
-module _ (s : State) (whole : IsWhole s) (e : Expr) (t : Term) (here : told_space s.names e ≡ told t) where
+module _ (s : State) (whole : IsWhole s) (e : Expr) (t : Term) (here : told_space s.names e ≡ told t) (rows : HasRows (space_of t)) where
   abbrev q : ℕ
   q = number s.prime
 
   pub homology-answered : (n : ℕ) → n ≤ 16 → (zs : List (Formal Cell)) × ((answer s (commands.Homology e n)).0 ≡ replies.Homology t zs)
   homology-answered n l =
-      let met = all-cycles q (is_field s.prime) (space_of t) n (ready-told s whole e t here) in (
+      let met = all-cycles q (is_field s.prime) (space_of t) n (ready-told s whole e t here) rows in (
         map (printed s.prime t n) (value q (cycles (space_of t) n)),
         ap (λ r. r.0) (answer-told s (commands.Homology e n) (replies.Homology t (map (printed s.prime t n) (value q (cycles (space_of t) n))), s) (told-built s.names e t here)
             (told-first (told_space s.names e) _ t here ∙ told-first (told_degree n) _ n (low-degree n l)
@@ -254,5 +264,5 @@ module _ (s : State) (whole : IsWhole s) (e : Expr) (t : Term) (here : told_spac
         value_with (value q) right,
         ap (λ r. r.0) (answer-told s (commands.Betti e low high) (replies.Betti (value_with (value q) right), s) (told-built s.names e t here)
             (told-first (told_space s.names e) _ t here ∙ told-first (told_degree low) _ low (low-degree low l) ∙ told-first (told_degree high) _ high (low-degree high k)
-            ∙ told-first (told_value s.prime t 0 right) _ (value_with (value q) right) (value-free s.prime t 0 right (free-dimensions q (is_field s.prime) (space_of t) low high (ready-told s whole e t here))))),
+            ∙ told-first (told_value s.prime t 0 right) _ (value_with (value q) right) (value-free s.prime t 0 right (free-dimensions q (is_field s.prime) (space_of t) low high (ready-told s whole e t here) rows)))),
       )

@@ -1,6 +1,5 @@
 -- The chain that a line reads: it counts as the chain that its text means.
-use Rattle.std.proofs.Common.{◌≡◌, ℕ, suc, ◌+◌, ◌-◌, ◌%◌, Bool, true, false, not, cond, List, [], ◌∷◌, ◌++◌, length, Option, Some, None, ℤ, refl, sym, ◌∙◌, ap, subst, arith}
-use Rattle.std.proofs.lemmas.Option.{none-some, same_Some}
+use Rattle.std.proofs.Common.{◌≡◌, ℕ, suc, ◌+◌, ◌-◌, ◌%◌, Bool, true, false, not, cond, List, [], ◌∷◌, ◌++◌, Option, Some, None, ℤ, refl, sym, ◌∙◌, ap, subst}
 use Rattle.std.specs.declared.cmp.Ordering.{Ordering}
 use Rattle.fp_field.specs.declared.prime.Prime.{Prime}
 use Rattle.fp_field.specs.Field.{number, residue}
@@ -18,60 +17,21 @@ use Rattle.spaces.proofs.Orders.{ordered-apart}
 use Rattle.spaces.proofs.SpaceLaws.{space_set_laws}
 use Rattle.term_lang.specs.declared.terms.Term.{Term}
 use Rattle.term_lang.specs.SpaceOf.{space_of}
-use Rattle.term_lang.specs.Degenerated.{degenerated}
-use Rattle.term_lang.proofs.WordsAct.{degenerated_in}
-use Rattle.simp_ops.specs.Words.{IsWord}
 use Rattle.values.specs.Asks.{Cell as GradedCell}
 use Rattle.values.specs.Laws.{cells, plain_chain}
 use Rattle.oracle_iface.specs.declared.bodies.Kind.{Kind}
-use Rattle.oracle_iface.specs.Built.{IsBuilt}
+use Rattle.normal_forms.specs.Built.{IsBuilt}
 use Rattle.homology_laws.proofs.Kernel.{degree-apart}
 use Rattle.homology_laws.proofs.CellChains.{weigh-plain, placed, up, keep-cells, plain-up}
-use Rattle.script_lang.specs.declared.simplices.SimplexText.{SimplexText}
 use Rattle.script_lang.specs.declared.simplices.TermText.{TermText}
 use Rattle.script_lang.specs.declared.simplices.ChainText.{ChainText}
 use Rattle.script_lang.specs.declared.simplices.ChainText.TheVariants as chains
-use Rattle.script_lang.specs.Meaning.{meaning, is_prefix, mapped, both_of}
-use Rattle.script_lang.specs.Resolved.{body_meaning}
-use Rattle.script_lang.proofs.ResolveMeanings.{meaning-is}
-use Rattle.script_lang.proofs.ResolvePrefixes.{word_of_prefix, length-word}
-use Rattle.script_lang.proofs.ResolveSpaces.{can_read}
+use Rattle.script_lang.specs.Meaning.{meaning, mapped, both_of}
 use Rattle.reply_text.specs.declared.refusals.Refusal.TheVariants as refusals
 use Rattle.session_core.specs.Answer.{Told, told, refused, ◌>>◌, simplex_past, term_at, told_simplex, told_term, told_terms, told_chain}
 use Rattle.session_core.specs.Replies.{meant_terms, meant_chain}
+use Rattle.session_core.proofs.TextSimplices.{meant as meant_in}
 use Rattle.session_core.proofs.ReplyParts.{same-told, not-told, told-parts}
-
--- ---- simplices
-
--- what a text means in a degree is a simplex of this degree
-module _ (a : Space) (is : IsAllowed a) (built : IsBuilt a) (n : ℕ) where
-  laws : IsSimplicial (set_of a)
-  laws = space_set_laws a is.0
-
-  before : (w : List ℕ) (x : Plain a) → IsWord n w → (set_of a).In (n - length w) x → (set_of a).In n (degenerated (set_of a) w x)
-  before w x h i =
-      let l = length-word n w h in
-      let e : n - length w + length w ≡ n = omega (arith, l) in
-      subst (λ k. (set_of a).In k (degenerated (set_of a) w x)) e (degenerated_in (set_of a) laws (n - length w) w x i (subst (λ k. IsWord k w) (sym e) h))
-
-  pub meant-in : (text : SimplexText) (y : Plain a) → meaning text a n ≡ Some y → (set_of a).In n y
-  meant-in text y e = by (is_prefix n text.degens) refl
-    where
-      from : (o : Option (Plain a)) → body_meaning text.body a (n - length text.degens) ≡ o → is_prefix n text.degens ≡ true
-          → mapped (degenerated (set_of a) text.degens) o ≡ Some y → (set_of a).In n y
-      from None q h f = absurd (none-some y f)
-      from (Some x) q h f =
-          subst (λ z. (set_of a).In n z) (same_Some (degenerated (set_of a) text.degens x) y f)
-          (before text.degens x (word_of_prefix n text.degens h) ((can_read a built is.0).simplex text.body (n - length text.degens) x q))
-
-      by : (b : Bool) → is_prefix n text.degens ≡ b → (set_of a).In n y
-      by false h =
-          absurd (none-some y (sym (ap (λ b. cond b (mapped (degenerated (set_of a) text.degens) (body_meaning text.body a (n - length text.degens))) None) h)
-          ∙ sym (ap (λ f. f a n) (meaning-is text)) ∙ e))
-      by true h =
-          from (body_meaning text.body a (n - length text.degens)) refl h
-          (sym (ap (λ b. cond b (mapped (degenerated (set_of a) text.degens) (body_meaning text.body a (n - length text.degens))) None) h)
-          ∙ sym (ap (λ f. f a n) (meaning-is text)) ∙ e)
 
 -- ---- chains
 
@@ -133,7 +93,7 @@ module _ (p : Prime) (t : Term) (n : ℕ) where
           chain = (x.0, residue q text.coeff) ∷ r.chain;
           meant = joined (meaning text.simplex X n) (meant_terms p X n texts) x.0 r.chain text.coeff x.1 r.meant;
           cells_are = sym (same-told (first.0 ++ rest.0) c rest.2) ∙ (λ i. x.2 i ++ r.cells_are i) ∙ one-more x.0 text.coeff r.chain (is_degenerate (set_of X) n x.0) refl;
-          within = (meant-in X is built n text.simplex x.0 x.1, r.within);
+          within = (meant_in X (is, built) n text.simplex x.0 x.1, r.within);
         }
       where
         joined : (m : Option (Plain X)) (o : Option (Terms (Plain X))) (x : Plain X) (c : Terms (Plain X)) (r : ℤ) → m ≡ Some x → o ≡ Some c

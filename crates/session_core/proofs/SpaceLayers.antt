@@ -1,12 +1,13 @@
 -- Spaces as they are told, for each way to write one.
 use Rattle.std.proofs.Common.{◌≡◌, ℕ, true, false, List, sym, ◌∙◌, ap}
+use Rattle.term_lang.specs.declared.terms.Term.TheVariants.{KZ1 as KZ1Term}
 use Rattle.term_lang.specs.declared.texts.RowText.{RowText}
 use Rattle.script_lang.specs.declared.exprs.PairText.{PairText}
 use Rattle.script_lang.specs.declared.exprs.Expr.{Expr}
 use Rattle.script_lang.specs.declared.exprs.Expr.TheVariants.{Name, Sphere, Product, Suspension, KZ1, Loop, Path, Bundle, Table, rolls-Name, rolls-Sphere, rolls-Product, rolls-Suspension, rolls-KZ1, rolls-Loop, rolls-Path, rolls-Bundle, rolls-Table}
 use Rattle.script_lang.specs.declared.exprs.Expr.TheOpen.{Expr-F}
 use Rattle.reply_text.specs.declared.refusals.Refusal.TheVariants.{NotBuilt}
-use Rattle.session_core.specs.Answer.{Names, refused, is_unbuilt, named_space, told_sphere, told_table, told_space}
+use Rattle.session_core.specs.Answer.{Names, told, refused, is_unbuilt, named_space, told_sphere, told_table, told_suspension, told_space}
 use Rattle.session_core.proofs.Layers.{rolled, rolled_unbuilt}
 
 module _ (names : Names) where
@@ -22,10 +23,10 @@ module _ (names : Names) where
   pub space_product : (a b : Expr) → told_space names (Product a b) ≡ refused NotBuilt
   space_product a b = ap (told_space names) (sym (rolls-Product a b)) ∙ rolled names (Expr-F.Product a b)
 
-  pub space_suspension : (a : Expr) → told_space names (Suspension a) ≡ refused NotBuilt
+  pub space_suspension : (a : Expr) → told_space names (Suspension a) ≡ told_suspension (told_space names a)
   space_suspension a = ap (told_space names) (sym (rolls-Suspension a)) ∙ rolled names (Expr-F.Suspension a)
 
-  pub space_integers : told_space names KZ1 ≡ refused NotBuilt
+  pub space_integers : told_space names KZ1 ≡ told KZ1Term
   space_integers = ap (told_space names) (sym rolls-KZ1) ∙ rolled names Expr-F.KZ1
 
   pub space_loop : (a : Expr) → told_space names (Loop a) ≡ refused NotBuilt
@@ -49,10 +50,10 @@ unbuilt_table rows = ap is_unbuilt (sym (rolls-Table rows)) ∙ rolled_unbuilt (
 pub unbuilt_product : (a b : Expr) → is_unbuilt (Product a b) ≡ true
 unbuilt_product a b = ap is_unbuilt (sym (rolls-Product a b)) ∙ rolled_unbuilt (Expr-F.Product a b)
 
-pub unbuilt_suspension : (a : Expr) → is_unbuilt (Suspension a) ≡ true
+pub unbuilt_suspension : (a : Expr) → is_unbuilt (Suspension a) ≡ is_unbuilt a
 unbuilt_suspension a = ap is_unbuilt (sym (rolls-Suspension a)) ∙ rolled_unbuilt (Expr-F.Suspension a)
 
-pub unbuilt_integers : is_unbuilt KZ1 ≡ true
+pub unbuilt_integers : is_unbuilt KZ1 ≡ false
 unbuilt_integers = ap is_unbuilt (sym rolls-KZ1) ∙ rolled_unbuilt Expr-F.KZ1
 
 pub unbuilt_loop : (a : Expr) → is_unbuilt (Loop a) ≡ true

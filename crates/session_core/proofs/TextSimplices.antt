@@ -1,63 +1,60 @@
 -- The simplices that texts mean, and the terms that the code keeps of them.
-use Rattle.std.proofs.Common.{◌≡◌, ℕ, ◌+◌, ◌-◌, ◌^◌, ◌<◌, ◌≤◌, Bool, true, false, cond, nat_lt, ◌⊎◌, inl, inr, [], ◌∷◌, length, Option, Some, None, refl, sym, ◌∙◌, ap, subst, arith}
-use Rattle.std.proofs.lemmas.Option.{none-some, same_Some}
+use Rattle.std.proofs.Common.{◌≡◌, ℕ, ◌-◌, ◌^◌, ◌<◌, ◌≤◌, Bool, true, false, cond, nat_lt, ◌⊎◌, inl, inr, [], ◌∷◌, length, Option, Some, None, refl, sym, ◌∙◌, ap, arith}
+use Rattle.std.proofs.lemmas.Option.{none-some}
 use Rattle.std.proofs.lemmas.Bool.{cases_lt}
 use Rattle.fp_field.specs.declared.element.Fp.{Fp}
 use Rattle.fp_field.specs.Chains.{Terms, Each}
 use Rattle.chain_core.specs.Formal.{numbers}
 use Rattle.simp_ops.specs.Bits.{mask_word}
-use Rattle.simp_ops.specs.Words.{IsWord}
 use Rattle.simp_ops.proofs.Squeezed.{and_right}
 use Rattle.simp_ops.proofs.MaskWords.{places-none}
+use Rattle.simp_ops.proofs.PlacesOf.{is_lt}
 use Rattle.spaces.specs.Simplicial.{is_degenerate}
 use Rattle.spaces.specs.Spaces.{Space, Plain, set_of}
 use Rattle.cells.specs.declared.cells.Simplex.{Simplex}
-use Rattle.term_lang.specs.Degenerated.{degenerated}
 use Rattle.term_lang.specs.Belongs.{is_cell, IsCell, IsSimplex}
 use Rattle.term_lang.specs.Quote.{quote, quote_cell}
 use Rattle.term_lang.specs.NormalForms.{HasNormalForms, HasNormalCells}
-use Rattle.term_lang.proofs.WordsAct.{words_act}
 use Rattle.values.specs.Asks.{Cell as GradedCell}
 use Rattle.oracle_iface.specs.Keys.{quote_chain}
+use Rattle.values.specs.Sizes.{letters, integer}
 use Rattle.oracle_iface.specs.KeyLaws.{IsShown}
+use Rattle.oracle_iface.specs.Limits.{kind_past}
+use Rattle.oracle_iface.specs.declared.bodies.Kind.{Kind}
+use Rattle.oracle_iface.specs.declared.bodies.Kind.TheVariants.{Letters, Integer, Terms as InTerms}
 use Rattle.script_lang.specs.declared.simplices.SimplexText.{SimplexText}
-use Rattle.script_lang.specs.Meaning.{meaning, mapped, is_prefix}
-use Rattle.script_lang.specs.Resolved.{body_meaning}
-use Rattle.script_lang.proofs.ResolveMeanings.{meaning-is}
-use Rattle.script_lang.proofs.ResolvePrefixes.{word_of_prefix, length-word}
-use Rattle.script_lang.proofs.ResolveSpaces.{CanRead, can_read}
+use Rattle.script_lang.specs.Meaning.{meaning}
+use Rattle.script_lang.specs.Resolved.{simplex_past}
+use Rattle.script_lang.proofs.ResolveSpaces.{meant_in}
+use Rattle.space_faces.specs.Boundaries.{IsBounded}
 use Rattle.space_faces.specs.CodeBoundaries.{kept}
 use Rattle.space_faces.proofs.FaceSteps.{no_mask_form, kept_cell, kept_none}
-use Rattle.space_faces.proofs.BuiltForms.{allowed_laws}
+use Rattle.normal_forms.proofs.BuiltForms.{built_forms, built_cells}
 use Rattle.session_core.specs.Whole.{IsReady}
 
-pub reads : (X : Space) → IsReady X → CanRead X
-reads X ready = can_read X ready.1 ready.0.0
+-- what is past no limit has no integer past the limit
+integer_within : (a b : ℕ) → kind_past (record { letters = a; integer = b; terms = 0 }) ≡ None → b ≤ 2 ^ 40
+integer_within a b e = by (cases_lt 100000 b) (nat_lt 64 a) e
+  where
+    from : Bool → Bool → Option (Kind × ℕ)
+    from x y =
+        elim x [
+          | true ↦ Some (Letters, a)
+          | false ↦ elim y [
+            | true ↦ Some (Integer, b)
+            | false ↦ elim (nat_lt 50000 0) [ true ↦ Some (InTerms, 0) | false ↦ None ]
+          ]
+        ]
 
-record From {A B : Type 0} (f : A → B) (x : Option A) (y : B) : Type 0 where
-  pub from : A
-  pub was : x ≡ Some from
-  pub gives : f from ≡ y
-
-mapped-from : {A B : Type 0} (f : A → B) (x : Option A) (y : B) → mapped f x ≡ Some y → From f x y
-mapped-from f None y e = absurd (none-some y e)
-mapped-from f (Some x) y e = record { from = x; was = refl; gives = same_Some (f x) y e }
+    by : (100000 < b) ⊎ (b ≤ 100000) → (x : Bool) → from x (nat_lt 100000 b) ≡ None → b ≤ 2 ^ 40
+    by (inr h) x f = omega (arith, h)
+    by (inl h) true f = absurd (none-some (Letters, a) (sym f))
+    by (inl h) false f = absurd (none-some (Integer, b) (sym f ∙ ap (from false) (is_lt 100000 b h)))
 
 module _ (X : Space) (ready : IsReady X) (n : ℕ) where
   -- what a text means is a simplex of the degree
   pub meant : (text : SimplexText) (y : Plain X) → meaning text X n ≡ Some y → (set_of X).In n y
-  meant text y e = by (is_prefix n text.degens) refl (sym (ap (λ f. f X n) (meaning-is text)) ∙ e)
-    where
-      by : (b : Bool) → is_prefix n text.degens ≡ b → cond b (mapped (degenerated (set_of X) text.degens) (body_meaning text.body X (n - length text.degens))) None ≡ Some y → (set_of X).In n y
-      by true p h =
-          let g = mapped-from (degenerated (set_of X) text.degens) (body_meaning text.body X (n - length text.degens)) y h in
-          let word = word_of_prefix n text.degens p in
-          let l = length-word n text.degens word in
-          let s : (n - length text.degens) + length text.degens ≡ n = omega (arith, l) in
-          let inside = (reads X ready).simplex text.body (n - length text.degens) g.from g.was in
-          let whole = (words_act (set_of X) (allowed_laws X ready.0)).simplex (n - length text.degens) text.degens g.from inside (subst (λ m. IsWord m text.degens) (sym s) word) in
-          subst ((set_of X).In n) g.gives (subst (λ m. (set_of X).In m (degenerated (set_of X) text.degens g.from)) s whole)
-      by false p h = absurd (none-some y h)
+  meant text y e = meant_in X ready.1 ready.0.0 text n y e
 
   -- the terms of a simplex that is not degenerate
   abbrev pub terms_of : Plain X → ℕ → Terms (GradedCell X)
@@ -68,10 +65,10 @@ module _ (X : Space) (ready : IsReady X) (n : ℕ) where
     low = omega arith
 
     forms : HasNormalForms X n
-    forms = (reads X ready).forms n low
+    forms = built_forms X ready.0 ready.1 n low
 
     cells : HasNormalCells X n
-    cells = (reads X ready).cells n low
+    cells = built_cells X ready.0 ready.1 n low
 
     simplex : IsSimplex X n (quote X n y)
     simplex = forms.onto y inside
@@ -107,6 +104,14 @@ module _ (X : Space) (ready : IsReady X) (n : ℕ) where
             let z : (quote X n y).degens.mask ≡ 0 = omega arith in
             ap numbers (kept_cell (quote X n y) s z) ∙ ap (λ c. (c, s.value) ∷ []) (sym (cell_is z))
             ∙ sym (ap (λ b. quote_chain X (cond b [] (((n, y), s.value) ∷ []))) (bare z))
+
+    -- within the limit on integers, where the simplex is
+    pub kept-bounded : simplex_past X y ≡ None → (c : ℕ) → Each (IsBounded X) (terms_of y c)
+    kept-bounded small c = by (is_degenerate (set_of X) n y)
+      where
+        by : (b : Bool) → Each (IsBounded X) (cond b [] (((n, y), c) ∷ []))
+        by true = tt
+        by false = (integer_within (letters X y) (integer X y) small, tt)
 
     pub kept-shown : (c : ℕ) → Each (IsShown X) (terms_of y c)
     kept-shown c = by (is_degenerate (set_of X) n y) refl

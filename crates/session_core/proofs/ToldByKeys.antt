@@ -3,7 +3,8 @@ use Rattle.std.proofs.Common.{◌≡◌, ℕ, List, take, Option, Some, None, re
 use Rattle.std.specs.List.{AllByRecursion as Every}
 use Rattle.fp_field.specs.declared.prime.Prime.{Prime}
 use Rattle.fp_field.specs.Field.{number}
-use Rattle.spaces.specs.Spaces.{Space, table, sphere, product, suspension, kz1, bundle, loops, paths, kzm1, cyclic_bundle}
+use Rattle.fp_field.proofs.FieldLaws.{is_field}
+use Rattle.spaces.specs.Spaces.{Space}
 use Rattle.term_lang.specs.declared.terms.Term.{Term}
 use Rattle.values.specs.Asks.{Right, value_with, asked_with}
 use Rattle.values.specs.Outcomes.{usual_limits, outcome, outcome_with, first_over, refused_or, is_value, is_over, Over as OverOf, Outcome as OutcomeOf}
@@ -18,7 +19,7 @@ use Rattle.homology_rules.specs.Asking.{first_refusal, up_to_refusal, AskedFirst
 use Rattle.homology_rules.specs.Shown.{HasShownValues}
 use Rattle.homology_rules.proofs.Alike.{Alike}
 use Rattle.homology_rules.proofs.CyclesRead.{quoted, quoted-none, quoted-some, refusals}
-use Rattle.homology_rules.proofs.ShownRows.{table-shown, sphere-shown}
+use Rattle.susp_rules.proofs.BuiltSpaces.{shown_built}
 use Rattle.homology_rules.proofs.Through.{through-whole}
 use Rattle.session_core.specs.declared.answered.Answered.{Answered}
 use Rattle.session_core.specs.declared.answered.Answered.TheVariants.{Told as IsTold, Over as IsRefused}
@@ -78,14 +79,5 @@ through-alike calls ks js Is s t (IsRefused w) h c = subst (λ us. EachAnswered 
 
 -- ---- built spaces
 
-pub ready-shown : (p : ℕ) (X : Space) → IsReady X → HasShownValues p X
-ready-shown p (table t) h = table-shown p t h.0.0
-ready-shown p (sphere m) h = sphere-shown p m h.0.0.0 h.0.0.1
-ready-shown p (product a b) h = absurd h.1
-ready-shown p (suspension a) h = absurd h.1
-ready-shown p kz1 h = absurd h.1
-ready-shown p (bundle t c) h = absurd h.1
-ready-shown p (loops a) h = absurd h.1
-ready-shown p (paths a) h = absurd h.1
-ready-shown p (kzm1 m) h = absurd h.1
-ready-shown p (cyclic_bundle t m c) h = absurd h.1
+pub ready-shown : (p : Prime) (X : Space) → IsReady X → HasShownValues (number p) X
+ready-shown p X h = shown_built (number p) (is_field p) X h.0 h.1

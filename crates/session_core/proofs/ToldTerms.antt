@@ -26,15 +26,16 @@ use Rattle.script_lang.specs.declared.simplices.TermText.{TermText}
 use Rattle.script_lang.specs.declared.simplices.ChainText.TheVariants as chains
 use Rattle.script_lang.specs.Meaning.{meaning}
 use Rattle.script_lang.specs.Resolved.{IsRead}
+use Rattle.space_faces.specs.Boundaries.{IsBounded}
 use Rattle.space_faces.specs.CodeBoundaries.{kept}
-use Rattle.space_faces.proofs.BuiltForms.{built_cells}
+use Rattle.normal_forms.proofs.BuiltForms.{built_cells}
 use Rattle.reply_text.specs.declared.refusals.Refusal.TheVariants as refusals
 use Rattle.session_core.specs.declared.stops.Stop.{Stop}
 use Rattle.session_core.specs.declared.stops.Stop.TheVariants as stops
 use Rattle.session_core.specs.Answer.{Told, told, refused, ◌>>◌, told_simplex, simplex_past, told_term, told_terms, told_chain}
 use Rattle.session_core.specs.Telling.{Stops, IsToldChain, ArePushed}
 use Rattle.session_core.specs.Whole.{IsReady}
-use Rattle.session_core.proofs.TextSimplices.{meant, kept-numbers, kept-shown}
+use Rattle.session_core.proofs.TextSimplices.{meant, kept-numbers, kept-shown, kept-bounded}
 
 quote-append : (X : Space) (c d : Terms (GradedCell X)) → quote_chain X (c ++ d) ≡ quote_chain X c ++ quote_chain X d
 quote-append X [] d = refl
@@ -59,13 +60,14 @@ module _ (p : Prime) (t : Term) (n : ℕ) where
     pub told_are : told_terms p t n 1 texts ≡ behind terms (told_terms p t n (suc i) (drop i texts))
     pub pushed : numbers items ≡ quote_chain X terms
     pub shown : EachKey (IsShown X) terms
+    pub bounded : EachKey (IsBounded X) terms
 
   behind-none : (m : Told (Terms (GradedCell X))) → m ≡ behind [] m
   behind-none (told c) = refl
   behind-none (refused r) = refl
 
   pub none_so_far : (texts : List TermText) → SoFar texts 0 []
-  none_so_far texts = record { terms = []; told_are = behind-none (told_terms p t n 1 texts); pushed = refl; shown = tt }
+  none_so_far texts = record { terms = []; told_are = behind-none (told_terms p t n 1 texts); pushed = refl; shown = tt; bounded = tt }
 
   behind-two : (c d : Terms (GradedCell X)) (m : Told (Terms (GradedCell X))) → behind c (behind d m) ≡ behind (c ++ d) m
   behind-two c d (told rest) = ap told (sym (append_assoc c d rest))
@@ -85,6 +87,7 @@ module _ (p : Prime) (t : Term) (n : ℕ) where
     pushed =
         here.pushed ∙ ap (λ c. c ++ quote_chain X here.terms) so.pushed ∙ sym (quote-append X so.terms here.terms);
     shown = Each-append (IsShown X) so.terms here.terms so.shown here.shown;
+    bounded = Each-append (IsBounded X) so.terms here.terms so.bounded here.bounded;
   }
 
   pub stops_at : (texts : List TermText) (i : ℕ) (text : TermText) (items : List (Cell × Fp)) (s : Stop) → drop i texts ≡ text ∷ drop (suc i) texts
@@ -100,6 +103,7 @@ module _ (p : Prime) (t : Term) (n : ℕ) where
     told_are = so.told_are ∙ ap (λ l. behind so.terms (told_terms p t n (suc i) l)) d ∙ ap told (append-none so.terms);
     pushed = so.pushed;
     shown = so.shown;
+    bounded = so.bounded;
   }
 
   -- the next of the texts, at a place
@@ -145,6 +149,7 @@ module _ (p : Prime) (t : Term) (ready : IsReady (space_of t)) (n : ℕ) (most :
             ∙ ap (λ c. numbers old ++ c) (kept-numbers Y ready n most y inside s)
             ∙ ap (λ c. numbers old ++ quote_chain Y (Rattle.session_core.proofs.TextSimplices.terms_of Y ready n y c)) e;
         shown = kept-shown Y ready n most y inside (residue (number p) text.coeff);
+        bounded = kept-bounded Y ready n most y inside read.2 (residue (number p) text.coeff);
       }
 
   pub term_refused : (k : ℕ) (text : TermText) → meaning text.simplex Y n ≡ None → told_term p t n k text ≡ refused (refusals.Simplex k)
@@ -168,9 +173,10 @@ module _ (p : Prime) (t : Term) (ready : IsReady (space_of t)) (n : ℕ) (most :
       is =
           let g = f ∙ ap (normal cell_cmp (number p)) are.pushed ∙ chain-cells Y (built_cells Y ready.0 ready.1) (number p) are.terms are.shown in
           λ i. record { prime = e i; terms = g i };
-      shown = normal-shown are.terms are.shown;
+      shown = normal-each (IsShown Y) are.terms are.shown;
+      bounded = normal-each (IsBounded Y) are.terms are.bounded;
     },
   )
     where
-      normal-shown : (d : Terms (GradedCell Y)) → Each (IsShown Y) d → Each (IsShown Y) (normal (by_degree (ordered Y).cmp) (number p) d)
-      normal-shown d h = Each-normal (IsShown Y) (by_degree (ordered Y).cmp) (number p) d h
+      normal-each : (P : GradedCell Y → Type 0) (d : Terms (GradedCell Y)) → Each P d → Each P (normal (by_degree (ordered Y).cmp) (number p) d)
+      normal-each P d h = Each-normal P (by_degree (ordered Y).cmp) (number p) d h

@@ -5,7 +5,7 @@
 -- that is not built yet comes before every other fault (the commands: Kenzo documentation, 1999; what the values are: Rubio and Sergeraert,
 -- Constructive Homological Algebra and Applications).
 --
---   from no names, `(homology x 0)` is refused by the name x
+--   from no names, `(homology x 0)` is refused by the name x, and `(homology (suspension (sphere 17)) 17)` by the sphere
 use Rattle.std.specs.Prelude.{ℕ, suc, Bool, true, false, ◌||◌, ◌==◌, nat_eq, nat_lt, cond, List, [], ◌∷◌, ◌++◌, map, Option, Some, None, ℤ}
 use Rattle.std.specs.Cmp.Lexicographic.{pointwise}
 use Rattle.fp_field.specs.declared.prime.Prime.{Prime}
@@ -19,8 +19,11 @@ use Rattle.spaces.specs.Spaces.{Space, Plain, set_of}
 use Rattle.spaces.specs.Orders.{ordered, by_degree}
 use Rattle.cells.specs.declared.cells.Cell.{Cell}
 use Rattle.term_lang.specs.declared.terms.Term.{Term}
-use Rattle.term_lang.specs.declared.terms.Term.TheVariants.{Sphere as SphereTerm}
+use Rattle.term_lang.specs.declared.terms.Term.TheVariants.{Sphere as SphereTerm, Suspension as SuspensionTerm, KZ1 as KZ1Term}
+use Rattle.term_lang.specs.declared.faults.TermFault.{TermFault}
+use Rattle.term_lang.specs.declared.faults.TermFault.TheVariants as term_faults
 use Rattle.term_lang.specs.SpaceOf.{space_of}
+use Rattle.term_lang.specs.TermFaults.{own_fault}
 use Rattle.term_lang.specs.Quote.{quote_cell}
 use Rattle.finite_sets.specs.Meaning.{meaning_of}
 use Rattle.finite_sets.specs.Faults.{fault_of}
@@ -93,8 +96,8 @@ abbrev pub unbuilt_step : Expr-F Bool → Bool
 unbuilt_step (Expr-F.Name name) = false
 unbuilt_step (Expr-F.Sphere n) = false
 unbuilt_step (Expr-F.Product a b) = true
-unbuilt_step (Expr-F.Suspension a) = true
-unbuilt_step Expr-F.KZ1 = true
+unbuilt_step (Expr-F.Suspension a) = a
+unbuilt_step Expr-F.KZ1 = false
 unbuilt_step (Expr-F.Loop a) = true
 unbuilt_step (Expr-F.Path a) = true
 unbuilt_step (Expr-F.Bundle a values) = true
@@ -123,9 +126,27 @@ told_table rows = elim (fault_of rows) [ Some fault ↦ refused (table_refusal f
 abbrev pub told_sphere : ℕ → Told Term
 told_sphere n = told_unless ((n == 0) || nat_lt 16 n) (refusals.BadSphere n) (SphereTerm n)
 
+-- the fault of a term; no line meets the last, since the values of a bundle are looked at before its term
+abbrev pub term_refusal : TermFault → Refusal
+term_refusal (term_faults.TooDeep d) = refusals.TooDeep d
+term_refusal (term_faults.NotOneVertex n) = refusals.NotOneVertex n
+term_refusal (term_faults.NotOneReduced n) = refusals.NotOneReduced n
+term_refusal (term_faults.BadSphere n) = refusals.BadSphere n
+term_refusal (term_faults.BadCocycle r) = refusals.NotBuilt
+
+-- a term whose parts are told, unless it has a fault of its own: a suspension of more than depth 8 first, then one whose part has not one
+-- vertex
+abbrev pub told_whole : Term → Told Term
+told_whole t = elim (own_fault (space_of t)) [ Some fault ↦ refused (term_refusal fault) | None ↦ told t ]
+
+abbrev pub told_suspension : Told Term → Told Term
+told_suspension part = part >> λ a. told_whole (SuspensionTerm a)
+
 abbrev pub space_step : Names → Expr-F (Told Term) → Told Term
 space_step names (Expr-F.Name name) = named_space names name
 space_step names (Expr-F.Sphere n) = told_sphere n
+space_step names (Expr-F.Suspension a) = told_suspension a
+space_step names Expr-F.KZ1 = told KZ1Term
 space_step names (Expr-F.Table rows) = told_table rows
 space_step names e = refused refusals.NotBuilt
 

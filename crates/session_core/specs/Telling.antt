@@ -9,6 +9,7 @@ use Rattle.chain_core.specs.Formal.{Formal, numbers}
 use Rattle.cells.specs.declared.cells.Cell.{Cell}
 use Rattle.spaces.specs.Spaces.{Space}
 use Rattle.values.specs.Asks.{ask, cycles, Cell as GradedCell}
+use Rattle.space_faces.specs.Boundaries.{IsBounded}
 use Rattle.oracle_iface.specs.Keys.{quote_chain, formal}
 use Rattle.oracle_iface.specs.KeyLaws.{IsShown}
 use Rattle.oracle_iface.specs.CodeSizes.{terms_size}
@@ -38,10 +39,11 @@ abbrev pub Stops : {A : Type 0} → Stop → Told A → Type 0
 Stops (stops.Refused r) m = m ≡ refused r
 Stops stops.Memory m = Unit {0}
 
--- a chain of the code stands for this chain of cells, each of a degree that the code reaches
+-- a chain of the code stands for this chain of cells, each of a degree that the code reaches and with integers that it adds
 pub record StandsFor (p : Prime) (X : Space) (c : Formal Cell) (z : Terms (GradedCell X)) : Type 0 where
   pub is : c ≡ formal p (quote_chain X z)
   pub shown : EachKey (IsShown X) z
+  pub bounded : EachKey (IsBounded X) z
 
 -- a chain of the code stands for the chain that is told
 abbrev pub IsToldChain : (p : Prime) (X : Space) → Told (Terms (GradedCell X)) → Formal Cell → Type 0
@@ -53,6 +55,7 @@ pub record ArePushed (X : Space) (m : Told (Terms (GradedCell X))) (old new : Li
   pub told_are : m ≡ told terms
   pub pushed : numbers new ≡ numbers old ++ quote_chain X terms
   pub shown : EachKey (IsShown X) terms
+  pub bounded : EachKey (IsBounded X) terms
 
 -- a chain of the code that is to be printed, unless it is past a limit
 abbrev pub within_limits : Formal Cell → Told (Formal Cell)

@@ -1,7 +1,8 @@
 // Spaces and degrees of a command.
 ghost use Rattle.std.specs.Prelude.{◌≡◌, ◌≤◌, IfOk, IfErr};
+ghost use Rattle.term_lang.specs.declared.terms.Term.TheVariants.{Suspension as SuspensionTerm, KZ1 as KZ1Term};
 ghost use Rattle.term_lang.specs.SpaceOf.{space_of};
-ghost use Rattle.session_core.specs.Answer.{told, is_unbuilt, table_refusal, named_space, told_table, told_sphere, told_space, told_degree};
+ghost use Rattle.session_core.specs.Answer.{told, is_unbuilt, table_refusal, named_space, told_table, told_sphere, term_refusal, told_whole, told_space, told_degree};
 ghost use Rattle.session_core.specs.Telling.{Stops};
 ghost use Rattle.session_core.specs.Whole.{IsReady};
 
@@ -10,9 +11,9 @@ use crate::stops::Stop;
 use finite_sets::{TableFault, build_table};
 use reply_text::Refusal;
 use script_lang::Expr;
-use seqs::Arc;
+use seqs::{Arc, Box};
 use std::alloc::Global;
-use term_lang::{Name, RowTextList, Term};
+use term_lang::{Name, RowTextList, Term, TermFault, check_term, copy_term};
 
 /// Whether a space has a construction that is not built yet.
 #[tactic(auto, using(crate::proofs::SpaceLayers::unbuilt_name, crate::proofs::SpaceLayers::unbuilt_sphere, crate::proofs::SpaceLayers::unbuilt_table, crate::proofs::SpaceLayers::unbuilt_product, crate::proofs::SpaceLayers::unbuilt_suspension, crate::proofs::SpaceLayers::unbuilt_integers, crate::proofs::SpaceLayers::unbuilt_loop, crate::proofs::SpaceLayers::unbuilt_path, crate::proofs::SpaceLayers::unbuilt_bundle))]
@@ -23,8 +24,8 @@ pub(crate) fn is_unbuilt(e: &Expr) -> bool
         Expr::Name(_) => false,
         Expr::Sphere(_) => false,
         Expr::Product(_, _) => true,
-        Expr::Suspension(_) => true,
-        Expr::KZ1 => true,
+        Expr::Suspension(a) => is_unbuilt(a.get()),
+        Expr::KZ1 => false,
         Expr::Loop(_) => true,
         Expr::Path(_) => true,
         Expr::Bundle(_, _) => true,
@@ -43,8 +44,11 @@ pub(crate) fn told_space(alloc: Global, names: &SessionNames, e: &Expr) -> Resul
         Expr::Name(name) => named_space(names, name),
         Expr::Sphere(n) => told_sphere(alloc, *n),
         Expr::Product(_, _) => Err(Stop::Refused(Refusal::NotBuilt)),
-        Expr::Suspension(_) => Err(Stop::Refused(Refusal::NotBuilt)),
-        Expr::KZ1 => Err(Stop::Refused(Refusal::NotBuilt)),
+        Expr::Suspension(a) => match told_space(alloc, names, a.get()) {
+            Ok(part) => told_suspension(alloc, &part),
+            Err(stop) => Err(stop),
+        },
+        Expr::KZ1 => told_integers(alloc),
         Expr::Loop(_) => Err(Stop::Refused(Refusal::NotBuilt)),
         Expr::Path(_) => Err(Stop::Refused(Refusal::NotBuilt)),
         Expr::Bundle(_, _) => Err(Stop::Refused(Refusal::NotBuilt)),
@@ -74,6 +78,43 @@ fn told_sphere(alloc: Global, n: u64) -> Result<Arc<Term>, Stop>
         return Err(Stop::Refused(Refusal::BadSphere(n)));
     }
     Ok(Arc::new(alloc, Term::Sphere(n as u32))?)
+}
+
+// K(Z,1).
+fn told_integers(alloc: Global) -> Result<Arc<Term>, Stop>
+    ensures told { IfOk result (λ t. told KZ1Term ≡ told t) }
+    ensures ready { IfOk result (λ t. IsReady (space_of t)) }
+    ensures stops { IfErr result (λ s. Stops s (told KZ1Term)) }
+{
+    Ok(Arc::new(alloc, Term::KZ1)?)
+}
+
+// The suspension of a space, unless it is too deep or the space has not one vertex.
+fn told_suspension(alloc: Global, part: &Arc<Term>) -> Result<Arc<Term>, Stop>
+    requires { IsReady (space_of part.now) }
+    ensures told { IfOk result (λ t. told_whole (SuspensionTerm part.now) ≡ told t) }
+    ensures ready { IfOk result (λ t. IsReady (space_of t)) }
+    ensures stops { IfErr result (λ s. Stops s (told_whole (SuspensionTerm part.now))) }
+{
+    let copy = copy_term(alloc, part.get())?;
+    let whole = Arc::new(alloc, Term::Suspension(Box::new(alloc, copy)?))?;
+    match check_term(whole.get()) {
+        Ok(()) => Ok(whole),
+        Err(fault) => Err(Stop::Refused(term_refusal(fault))),
+    }
+}
+
+// The refusal of a term with this fault.
+fn term_refusal(fault: TermFault) -> Refusal
+    ensures { result ≡ term_refusal fault }
+{
+    match fault {
+        TermFault::TooDeep(depth) => Refusal::TooDeep(depth),
+        TermFault::NotOneVertex(count) => Refusal::NotOneVertex(count),
+        TermFault::NotOneReduced(low) => Refusal::NotOneReduced(low),
+        TermFault::BadSphere(n) => Refusal::BadSphere(n as u64),
+        TermFault::BadCocycle(_) => Refusal::NotBuilt,
+    }
 }
 
 // The table that rows mean.

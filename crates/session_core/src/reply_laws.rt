@@ -10,7 +10,8 @@ ghost use Rattle.script_lang.specs.declared.simplices.ChainText.{ChainText};
 ghost use Rattle.session_core.specs.Answer.{State, told, told_space, answer};
 ghost use Rattle.session_core.specs.Lines.{told_line, answer_bytes};
 ghost use Rattle.session_core.specs.Replies.{IsBettiReply, IsHomologyReply, IsBoundaryReply, IsExpressReply};
-ghost use Rattle.session_core.specs.Whole.{IsWhole};
+ghost use Rattle.session_core.specs.Whole.{IsWhole, HasRows};
+ghost use Rattle.term_lang.specs.SpaceOf.{space_of};
 ghost use Rattle.term_lang.specs.declared.terms.Term.{Term};
 
 /// The cycles of a homology reply stand for a homology list of that degree of the space's own normalised
@@ -48,12 +49,12 @@ pub fn express_replies()
         → (answer s (Express e n text)).0 ≡ ExpressReply t v d → IsExpressReply s e n text t v d }
 {}
 
-/// A table or a sphere meets no limit in its values: where a line tells a space and its degrees are at
-/// most 16, a question for cycles or for dimensions of its homology is answered. It does nothing; its
-/// clauses are the law.
+/// A table or a sphere meets no limit in its values: where a line tells one and its degrees are at most
+/// 16, a question for cycles or for dimensions of its homology is answered. The law is not stated of other
+/// spaces, as a value of K(Z,1) may be past a limit. It does nothing; its clauses are the law.
 pub fn homology_is_answered()
-    ensures cycles { (s : State) (e : Expr) (n : ℕ) (t : Term) → IsWhole s → told_space s.names e ≡ told t → n ≤ 16
+    ensures cycles { (s : State) (e : Expr) (n : ℕ) (t : Term) → IsWhole s → told_space s.names e ≡ told t → HasRows (space_of t) → n ≤ 16
         → (zs : List (Formal Cell)) × ((answer s (Homology e n)).0 ≡ HomologyReply t zs) }
-    ensures dimensions { (s : State) (e : Expr) (low high : ℕ) (t : Term) → IsWhole s → told_space s.names e ≡ told t → low ≤ 16 → high ≤ 16
+    ensures dimensions { (s : State) (e : Expr) (low high : ℕ) (t : Term) → IsWhole s → told_space s.names e ≡ told t → HasRows (space_of t) → low ≤ 16 → high ≤ 16
         → (ds : List ℕ) × ((answer s (Betti e low high)).0 ≡ BettiReply ds) }
 {}

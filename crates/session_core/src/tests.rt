@@ -82,8 +82,11 @@ fn boundaries_in_the_projective_plane(rt: HostRuntime) {
 fn first_fault_is_the_reply(rt: HostRuntime) {
     let mut session = new_session(rt.alloc());
     let lines = [
-        ("(betti (suspension x) 17 18) x", "error syntax\n"),
-        ("(betti (suspension x) 17 18)", "error not-built\n"),
+        ("(betti (loop-space x) 17 18) x", "error syntax\n"),
+        (
+            "(betti (suspension (loop-space x)) 17 18)",
+            "error not-built\n",
+        ),
         ("(betti x 17 18)", "error unknown-name x\n"),
         ("(homology (sphere 0) 17)", "error term bad-sphere 0\n"),
         ("(betti (sphere 2) 17 18)", "error degree 17\n"),
@@ -95,6 +98,28 @@ fn first_fault_is_the_reply(rt: HostRuntime) {
             "error table face-law 3 0 2\n",
         ),
         ("(names)", "names\n"),
+    ];
+    answers(&rt, rt.alloc(), &mut session, &lines);
+}
+
+#[test]
+fn suspensions_of_integer_lists(rt: HostRuntime) {
+    let mut session = new_session(rt.alloc());
+    let lines = [
+        ("(setf k (suspension (k-z-1)))", "defined k\n"),
+        (
+            "(boundary k 3 (1 ^|2|3|) (1 ^0:|4|))",
+            "chain (1 ^|2|) (1 ^|3|) (1 ^|5|)\n",
+        ),
+        (
+            "(boundary k 2 (1 ^|100001|))",
+            "error over integer 100001\n",
+        ),
+        (
+            "(setf x (suspension (table (a) (b))))",
+            "error term not-one-vertex 2\n",
+        ),
+        ("(names)", "names k\n"),
     ];
     answers(&rt, rt.alloc(), &mut session, &lines);
 }

@@ -1,24 +1,38 @@
--- The terms of built spaces are tables and spheres.
+-- The terms of built spaces are tables, spheres, K(Z,1) and suspensions.
 use Rattle.std.proofs.Common.{◌≡◌, ℕ, List, sym, ◌∙◌, ap, subst}
 use Rattle.term_lang.specs.declared.tables.Row.{Row}
 use Rattle.term_lang.specs.declared.terms.Term.{Term, out-Term, roll-Term, roll-out-Term}
-use Rattle.term_lang.specs.declared.terms.Term.TheVariants.{Table, Sphere, rolls-Table, rolls-Sphere, rolls-Product, rolls-Suspension, rolls-KZ1, rolls-Bundle, rolls-Loop, rolls-Path}
+use Rattle.term_lang.specs.declared.terms.Term.TheVariants.{Table, Sphere, Suspension, KZ1, rolls-Table, rolls-Sphere, rolls-Product, rolls-Suspension, rolls-KZ1, rolls-Bundle, rolls-Loop, rolls-Path}
 use Rattle.term_lang.specs.declared.terms.Term.TheOpen.{Term-F}
 use Rattle.term_lang.specs.SpaceOf.{space_of}
-use Rattle.term_lang.proofs.SpacesOfTerms.{space-Product, space-Suspension, space-KZ1, space-Bundle, space-Loop, space-Path}
-use Rattle.oracle_iface.specs.Built.{IsBuilt}
+use Rattle.term_lang.proofs.SpacesOfTerms.{space-Product, space-Bundle, space-Loop, space-Path}
+use Rattle.normal_forms.specs.Built.{IsBuilt}
 
-layer_built : (y : Term-F Term) → ((rows : List Row) → roll-Term y ≡ Table rows → ⊥) → ((m : ℕ) → roll-Term y ≡ Sphere m → ⊥) → IsBuilt (space_of (roll-Term y)) → ⊥
-layer_built (Term-F.Table rows) not_table not_sphere b = not_table rows (rolls-Table rows)
-layer_built (Term-F.Sphere m) not_table not_sphere b = not_sphere m (rolls-Sphere m)
-layer_built (Term-F.Product a c) not_table not_sphere b = subst IsBuilt (ap space_of (rolls-Product a c) ∙ space-Product a c) b
-layer_built (Term-F.Suspension a) not_table not_sphere b = subst IsBuilt (ap space_of (rolls-Suspension a) ∙ space-Suspension a) b
-layer_built Term-F.KZ1 not_table not_sphere b = subst IsBuilt (ap space_of rolls-KZ1 ∙ space-KZ1) b
-layer_built (Term-F.Bundle rows values) not_table not_sphere b = subst IsBuilt (ap space_of (rolls-Bundle rows values) ∙ space-Bundle rows values) b
-layer_built (Term-F.Loop a) not_table not_sphere b = subst IsBuilt (ap space_of (rolls-Loop a) ∙ space-Loop a) b
-layer_built (Term-F.Path a) not_table not_sphere b = subst IsBuilt (ap space_of (rolls-Path a) ∙ space-Path a) b
+record IsOther (t : Term) : Type 0 where
+  not_table : (rows : List Row) → t ≡ Table rows → ⊥
+  not_sphere : (m : ℕ) → t ≡ Sphere m → ⊥
+  not_suspension : (a : Term) → t ≡ Suspension a → ⊥
+  not_kz1 : t ≡ KZ1 → ⊥
 
-pub only_built : (t : Term) → ((rows : List Row) → t ≡ Table rows → ⊥) → ((m : ℕ) → t ≡ Sphere m → ⊥) → IsBuilt (space_of t) → ⊥
-only_built t not_table not_sphere b =
+layer_built : (y : Term-F Term) → IsOther (roll-Term y) → IsBuilt (space_of (roll-Term y)) → ⊥
+layer_built (Term-F.Table rows) o b = o.not_table rows (rolls-Table rows)
+layer_built (Term-F.Sphere m) o b = o.not_sphere m (rolls-Sphere m)
+layer_built (Term-F.Product a c) o b = subst IsBuilt (ap space_of (rolls-Product a c) ∙ space-Product a c) b
+layer_built (Term-F.Suspension a) o b = o.not_suspension a (rolls-Suspension a)
+layer_built Term-F.KZ1 o b = o.not_kz1 rolls-KZ1
+layer_built (Term-F.Bundle rows values) o b = subst IsBuilt (ap space_of (rolls-Bundle rows values) ∙ space-Bundle rows values) b
+layer_built (Term-F.Loop a) o b = subst IsBuilt (ap space_of (rolls-Loop a) ∙ space-Loop a) b
+layer_built (Term-F.Path a) o b = subst IsBuilt (ap space_of (rolls-Path a) ∙ space-Path a) b
+
+pub only_built : (t : Term) → ((rows : List Row) → t ≡ Table rows → ⊥) → ((m : ℕ) → t ≡ Sphere m → ⊥) → ((a : Term) → t ≡ Suspension a → ⊥) → (t ≡ KZ1 → ⊥)
+    → IsBuilt (space_of t) → ⊥
+only_built t not_table not_sphere not_suspension not_kz1 b =
     let e = roll-out-Term t in
-    layer_built (out-Term t) (λ rows q. not_table rows (sym e ∙ q)) (λ m q. not_sphere m (sym e ∙ q)) (subst (λ s. IsBuilt (space_of s)) (sym e) b)
+    layer_built (out-Term t)
+    (record {
+      not_table = λ rows q. not_table rows (sym e ∙ q);
+      not_sphere = λ m q. not_sphere m (sym e ∙ q);
+      not_suspension = λ a q. not_suspension a (sym e ∙ q);
+      not_kz1 = λ q. not_kz1 (sym e ∙ q);
+    })
+    (subst (λ s. IsBuilt (space_of s)) (sym e) b)

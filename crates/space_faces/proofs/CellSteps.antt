@@ -21,10 +21,10 @@ use Rattle.term_lang.specs.Forms.{cell_form, form}
 use Rattle.term_lang.specs.Belongs.{is_cell, IsSimplex}
 use Rattle.term_lang.proofs.CodeForms.{count_ones-mask}
 use Rattle.oracle_iface.specs.Keys.{quote_chain}
-use Rattle.oracle_iface.specs.Built.{IsBuilt}
+use Rattle.normal_forms.specs.Built.{IsBuilt}
 use Rattle.space_faces.specs.Boundaries.{IsLowCell}
 use Rattle.space_faces.specs.CodeBoundaries.{code_d, kept}
-use Rattle.space_faces.proofs.BuiltForms.{built_forms, built_cells}
+use Rattle.normal_forms.proofs.BuiltForms.{built_forms, built_cells}
 use Rattle.space_faces.proofs.FaceSteps.{front, face_pushed, kept_cell, kept_none, append-none}
 
 no_ones : count_ones 0 ≡ 0

@@ -7,6 +7,7 @@ use Rattle.simp_ops.proofs.OperatorLaws.{degeneracy_in}
 use Rattle.simp_ops.proofs.Squeezed.{and_left, and_right}
 use Rattle.spaces.specs.Allowed.{IsAllowed}
 use Rattle.spaces.specs.Spaces.{Space, set_of}
+use Rattle.spaces.proofs.SpaceLaws.{space_set_laws}
 use Rattle.spaces.proofs.WordLaws.{length-degeneracy, word_length}
 use Rattle.cells.specs.declared.cells.Simplex.{Simplex}
 use Rattle.term_lang.specs.Degenerated.{degenerated}
@@ -14,8 +15,8 @@ use Rattle.term_lang.specs.Forms.{cell_form, form}
 use Rattle.term_lang.specs.Belongs.{is_cell, IsCell, IsSimplex}
 use Rattle.term_lang.proofs.CodeForms.{lt_is, word_of_mask, mask_of_word}
 use Rattle.term_lang.proofs.WordsAct.{words_act}
-use Rattle.oracle_iface.specs.Built.{IsBuilt}
-use Rattle.space_faces.proofs.BuiltForms.{built_cells, allowed_laws}
+use Rattle.normal_forms.specs.Built.{IsBuilt}
+use Rattle.normal_forms.proofs.BuiltForms.{built_cells}
 
 mask_low : (X : Space) (n : ℕ) (x : Simplex) → IsSimplex X n x → x.degens.mask < 2 ^ n
 mask_low X n x h =
@@ -48,7 +49,7 @@ made X is built n i x y h l k e f =
     record {
       plain_is =
           (λ j. degenerated (set_of X) (f j) (cell_form (e j) X))
-          ∙ sym ((words_act (set_of X) (allowed_laws X is)).degeneracy (n - length w) i w (cell_form x.cell X) ((built_cells X is built (n - length w) below).simplex x.cell cell)
+          ∙ sym ((words_act (set_of X) (space_set_laws X is.0)).degeneracy (n - length w) i w (cell_form x.cell X) ((built_cells X is built (n - length w) below).simplex x.cell cell)
           (subst (λ q. IsWord q w) (sym m) word) (omega (arith, m, k)));
       simplex = (λ j. is_lt y.degens.mask (2 ^ (n + 1)) low j && is_cell (e j) X (left j)) ∙ cell;
     }

@@ -1,9 +1,11 @@
-pub mod BuiltForms
+pub mod BuiltTerms
 pub mod FaceSteps
 pub mod ShownChains
 pub mod SphereFaces
-pub mod BuiltTerms
+pub mod MovedUp
+pub mod UpFaces
+pub mod SuspensionFaces
 pub mod CellSteps
-pub mod AllowedBuilt
 pub mod Degeneracies
 pub mod SphereCells
+pub mod IntegerCells

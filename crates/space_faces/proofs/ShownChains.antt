@@ -1,6 +1,6 @@
 -- Chains of cells of the code and the chains of the space that they stand for.
 use Rattle.std.specs.Prelude.{Some, slice_get, Result, Ok, Err, IfOk}
-use Rattle.std.proofs.Common.{◌≡◌, ℕ, zero, suc, ◌+◌, ◌*◌, ◌%◌, ◌≤◌, take, append_assoc, Bool, true, false, not, [], ◌∷◌, ◌++◌, map, refl, sym, ◌∙◌, ap, subst, arith, true≢false}
+use Rattle.std.proofs.Common.{◌≡◌, ℕ, zero, suc, ◌+◌, ◌*◌, ◌%◌, ◌^◌, ◌≤◌, take, append_assoc, Bool, true, false, not, [], ◌∷◌, ◌++◌, map, refl, sym, ◌∙◌, ap, subst, arith, true≢false}
 use Rattle.fp_field.specs.Field.{number, SameMod}
 use Rattle.fp_field.proofs.Mod.{same-plus}
 use Rattle.fp_field.specs.declared.prime.Prime.{Prime}
@@ -14,7 +14,8 @@ use Rattle.fp_field.proofs.Weights.{Each-extend, weigh-append, weigh-scale}
 use Rattle.fp_field.proofs.FlowLaws.{Each-keep}
 use Rattle.spaces.specs.Simplicial.{IsSimplicial, is_degenerate}
 use Rattle.spaces.specs.Spaces.{Space, Plain, set_of}
-use Rattle.spaces.specs.Allowed.{IsAllowed}
+use Rattle.spaces.specs.Allowed.{IsAllowed, Admits}
+use Rattle.spaces.proofs.SpaceLaws.{space_set_laws}
 use Rattle.cells.specs.declared.cells.Cell.{Cell}
 use Rattle.cells.specs.Order.{cell_cmp}
 use Rattle.values.specs.Asks.{Cell as GradedCell}
@@ -23,11 +24,13 @@ use Rattle.term_lang.specs.Belongs.{IsCell as IsCodeCell}
 use Rattle.term_lang.specs.Quote.{quote_cell}
 use Rattle.oracle_iface.specs.Keys.{quote_chain}
 use Rattle.oracle_iface.specs.KeyLaws.{HasCells, IsShown}
+use Rattle.oracle_iface.specs.CodeSizes.{cell_integer}
 use Rattle.oracle_iface.proofs.CellOrders.{chain-cells, dim-quoted, form-quoted}
-use Rattle.oracle_iface.specs.Built.{IsBuilt}
-use Rattle.space_faces.specs.Boundaries.{IsLowCell, graded, graded_chain, boundary_of}
+use Rattle.oracle_iface.proofs.SizesAgree.{cell_integer_agree}
+use Rattle.normal_forms.specs.Built.{IsBuilt}
+use Rattle.normal_forms.proofs.BuiltForms.{built_cells}
+use Rattle.space_faces.specs.Boundaries.{IsLowCell, IsBounded, graded, graded_chain, boundary_of}
 use Rattle.space_faces.specs.CodeBoundaries.{code_d}
-use Rattle.space_faces.proofs.BuiltForms.{built_cells, allowed_laws}
 
 module _ (X : Space) where
   quote-scale : (a : ℕ) (c : Terms (GradedCell X)) → quote_chain X (scale a c) ≡ scale a (quote_chain X c)
@@ -77,14 +80,16 @@ module _ (X : Space) where
 
     -- ---- chains that are quoted are low, and stand for what they quote
 
-    low_quoted : (x : GradedCell X) → IsShown X x → IsLowCell X (quote_cell X x.0 x.1)
-    low_quoted x h =
+    low_quoted : Admits X → (x : GradedCell X) → IsShown X x → IsBounded X x → IsLowCell X (quote_cell X x.0 x.1)
+    low_quoted is x h b =
         let e = dim-quoted X x.0 (cells x.0 h.0) x.1 h.1 in
-        subst (λ k. (k ≤ 32) × IsCodeCell X k (quote_cell X x.0 x.1)) (sym e) (h.0, (cells x.0 h.0).onto x.1 h.1.0 h.1.1)
+        let l : cell_integer (quote_cell X x.0 x.1) ≤ 2 ^ 40 = subst (λ m. m ≤ 2 ^ 40) (sym (cell_integer_agree X is x.0 x.1)) b in
+        subst (λ k. (k ≤ 32) × IsCodeCell X k (quote_cell X x.0 x.1) × (cell_integer (quote_cell X x.0 x.1) ≤ 2 ^ 40)) (sym e)
+        (h.0, (cells x.0 h.0).onto x.1 h.1.0 h.1.1, l)
 
-    pub chain_low : (c : Terms (GradedCell X)) → Each (IsShown X) c → Each (IsLowCell X) (quote_chain X c)
-    chain_low [] e = tt
-    chain_low (t ∷ c) e = (low_quoted t.0 e.0, chain_low c e.1)
+    pub chain_low : Admits X → (c : Terms (GradedCell X)) → Each (IsShown X) c → Each (IsBounded X) c → Each (IsLowCell X) (quote_chain X c)
+    chain_low is [] e b = tt
+    chain_low is (t ∷ c) e b = (low_quoted is t.0 e.0 b.0, chain_low is c e.1 b.1)
 
     pub chain_back : (c : Terms (GradedCell X)) → Each (IsShown X) c → graded_chain X (quote_chain X c) ≡ c
     chain_back [] e = refl
@@ -96,7 +101,7 @@ pub boundary_is : (p : ℕ) (X : Space) → IsAllowed X → IsBuilt X → (z : T
 boundary_is p X is built z e =
     ap (normal cell_cmp p) (quoted_sum X p z)
     ∙ chain-cells X (built_cells X is built) p (extend (cell_d p X) (graded_chain X z))
-    (Each-extend (IsShown X) (IsShown X) (cell_d p X) (d_shown X (allowed_laws X is) p) (graded_chain X z) (chain_shown X (built_cells X is built) z e))
+    (Each-extend (IsShown X) (IsShown X) (cell_d p X) (d_shown X (space_set_laws X is.0) p) (graded_chain X z) (chain_shown X (built_cells X is built) z e))
 
 -- ---- sums of images
 

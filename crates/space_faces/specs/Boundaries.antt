@@ -5,7 +5,7 @@
 -- Objects in Algebraic Topology, chapter V, 22, on normalised chains), again as a chain of cells.
 --
 --   in the projective plane with the edge e and the triangle t, whose faces are e, a degenerate edge and e, the boundary of t is 2 e
-use Rattle.std.specs.Prelude.{ℕ, ◌≤◌, map}
+use Rattle.std.specs.Prelude.{ℕ, ◌≤◌, ◌^◌, map}
 use Rattle.fp_field.specs.Chains.{Terms, extend}
 use Rattle.fp_field.specs.Normal.{normal}
 use Rattle.spaces.specs.Spaces.{Space}
@@ -16,10 +16,16 @@ use Rattle.term_lang.specs.Forms.{cell_form}
 use Rattle.term_lang.specs.Belongs.{IsCell}
 use Rattle.values.specs.Asks.{Cell as GradedCell}
 use Rattle.values.specs.Laws.{cell_d}
+use Rattle.values.specs.Sizes.{integer}
+use Rattle.oracle_iface.specs.CodeSizes.{cell_integer}
 
--- a cell of the space, of a dimension that masks of the code reach
+-- a cell of the space, of a dimension that masks of the code reach and with integers that the code adds
 abbrev pub IsLowCell : Space → Cell → Type 0
-IsLowCell X c = (dim_of c ≤ 32) × IsCell X (dim_of c) c
+IsLowCell X c = (dim_of c ≤ 32) × IsCell X (dim_of c) c × (cell_integer c ≤ 2 ^ 40)
+
+-- a simplex with such integers
+abbrev pub IsBounded : (X : Space) → GradedCell X → Type 0
+IsBounded X x = integer X x.1 ≤ 2 ^ 40
 
 -- the cell as its dimension and plain form
 abbrev pub graded : (X : Space) → Cell → GradedCell X

@@ -1,20 +1,11 @@
--- The spaces whose faces the code computes: tables and spheres (the constructions: May, Simplicial Objects in Algebraic Topology,
--- chapters I, IV and VI).
+-- The spaces whose faces the code computes, as a value of the code keeps them: what is built and allowed (the constructions: May,
+-- Simplicial Objects in Algebraic Topology, chapters I, IV and VI).
 --
---   the sphere of dimension 2 is built, and its suspension is not; that of dimension 17 is built, and is not allowed
-use Rattle.std.specs.Prelude.{◌<◌, ◌≤◌}
-use Rattle.spaces.specs.Spaces.{Space, table, sphere, product, suspension, kz1, bundle, loops, paths, kzm1, cyclic_bundle}
-use Rattle.spaces.specs.Allowed.{IsTable}
+--   the suspension of the sphere of dimension 2 is allowed and built, its loop group is not built, and the sphere of dimension 17 is
+--   not allowed
+use Rattle.spaces.specs.Spaces.{Space}
+use Rattle.spaces.specs.Allowed.{IsAllowed}
+use Rattle.normal_forms.specs.Built.{IsBuilt}
 
--- a built space that is allowed, as values of the code keep it
 abbrev pub IsAllowedBuilt : Space → Type 0
-IsAllowedBuilt (table t) = IsTable t
-IsAllowedBuilt (sphere m) = (0 < m) × (m ≤ 16)
-IsAllowedBuilt (product a b) = ⊥
-IsAllowedBuilt (suspension a) = ⊥
-IsAllowedBuilt kz1 = ⊥
-IsAllowedBuilt (bundle t c) = ⊥
-IsAllowedBuilt (loops a) = ⊥
-IsAllowedBuilt (paths a) = ⊥
-IsAllowedBuilt (kzm1 m) = ⊥
-IsAllowedBuilt (cyclic_bundle t m c) = ⊥
+IsAllowedBuilt X = IsAllowed X × IsBuilt X

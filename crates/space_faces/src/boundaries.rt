@@ -9,7 +9,7 @@ ghost use Rattle.cells.specs.Dim.{dim_of};
 ghost use Rattle.term_lang.specs.Belongs.{IsCell};
 ghost use Rattle.term_lang.specs.SpaceOf.{space_of};
 ghost use Rattle.oracle_iface.specs.Keys.{quote_chain};
-ghost use Rattle.oracle_iface.specs.Built.{IsBuilt};
+ghost use Rattle.normal_forms.specs.Built.{IsBuilt};
 ghost use Rattle.space_faces.specs.Boundaries.{IsLowCell, graded_chain, boundary_of};
 ghost use Rattle.space_faces.specs.CodeBoundaries.{code_d, kept};
 
@@ -21,8 +21,9 @@ use simp_ops::Degens;
 use std::alloc::{AllocError, Global};
 use term_lang::Term;
 
-/// The boundary of a chain of cells of a space, of degrees up to 32: the alternating sum of the faces of each cell,
-/// where degenerate faces count as 0 (May, Simplicial Objects, chapter V, 22). In degree 0 it is 0.
+/// The boundary of a chain of cells of a space, of degrees up to 32 and with integers of magnitude at most
+/// 2^40: the alternating sum of the faces of each cell, where degenerate faces count as 0 (May, Simplicial
+/// Objects, chapter V, 22). In degree 0 it is 0.
 pub fn boundary(alloc: Global, t: &Term, z: &Chain<Cell>) -> Result<Chain<Cell>, AllocError>
     requires allowed { IsAllowed (space_of t.now) }
     requires built { IsBuilt (space_of t.now) }

@@ -1,10 +1,12 @@
 //! Faces, degeneracies and boundaries of the simplices of a space.
 #![tactic(auto)]
 
+mod bases;
 mod boundaries;
 mod faces;
 mod laws;
 mod spheres;
+mod suspensions;
 mod term_faces;
 
 pub use boundaries::boundary;

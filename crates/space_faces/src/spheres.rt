@@ -1,15 +1,13 @@
 // The faces of the simplices of a sphere.
 ghost use Rattle.std.specs.Prelude.{◌≡◌, ◌-◌, ◌<◌, ◌≤◌, IfOk};
 ghost use Rattle.spaces.specs.Spaces.{sphere, set_of};
-ghost use Rattle.simp_ops.specs.Bits.{mask_word};
-ghost use Rattle.spaces.specs.Tables.{all_degeneracies};
 ghost use Rattle.cells.specs.Dim.{degree_of};
-ghost use Rattle.cells.specs.declared.cells.Cell.TheVariants.{Base};
 ghost use Rattle.term_lang.specs.Belongs.{IsSimplex};
 ghost use Rattle.term_lang.specs.Forms.{form};
 
-use cells::{Cell, Simplex, copy_cell, degree};
-use simp_ops::{Degens, FacePast, face_past};
+use crate::bases::degenerate_vertex;
+use cells::{Simplex, copy_cell, degree};
+use simp_ops::{FacePast, face_past};
 use std::alloc::{AllocError, Global};
 
 /// The face d_i of a simplex of the sphere of dimension m, of degree 1 to 32: what the simplicial identities leave of
@@ -29,17 +27,5 @@ pub fn sphere_face(alloc: Global, m: u32, i: u32, x: &Simplex) -> Result<Simplex
             cell: copy_cell(alloc, &x.cell)?,
         }),
         FacePast::Through(_, _) => Ok(degenerate_vertex(degree(x) - 1)),
-    }
-}
-
-// The simplex of degree n that is a degeneracy of the vertex.
-fn degenerate_vertex(n: u32) -> Simplex
-    requires { n < 32 }
-    ensures mask { mask_word result.degens.mask ≡ all_degeneracies n }
-    ensures cell { result.cell ≡ Base }
-{
-    Simplex {
-        degens: Degens { mask: (1 << n) - 1 },
-        cell: Cell::Base,
     }
 }

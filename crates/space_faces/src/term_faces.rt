@@ -1,9 +1,10 @@
 // The simplicial set of the space of a term.
-ghost use Rattle.std.specs.Prelude.{◌≡◌, ◌≤◌};
+ghost use Rattle.std.specs.Prelude.{◌≡◌, ◌^◌, ◌≤◌};
 ghost use Rattle.spaces.specs.Allowed.{IsAllowed};
 ghost use Rattle.cells.specs.Dim.{degree_of};
 ghost use Rattle.term_lang.specs.SpaceOf.{space_of};
-ghost use Rattle.oracle_iface.specs.Built.{IsBuilt};
+ghost use Rattle.oracle_iface.specs.CodeSizes.{cell_integer};
+ghost use Rattle.normal_forms.specs.Built.{IsBuilt};
 ghost use Rattle.space_faces.specs.Built.{IsAllowedBuilt};
 ghost use Rattle.space_faces.specs.Kept.{allowed_built_prop, kept_laws};
 
@@ -14,7 +15,8 @@ use std::alloc::{AllocError, Global};
 use term_lang::{Faces, Term};
 
 /// The simplicial set of the space of a term, by its faces and degeneracies. A face may be asked of
-/// a simplex of degree up to 32, a degeneracy of one of degree up to 30.
+/// a simplex of degree up to 32 whose integers are at most 2^40 in magnitude, a degeneracy of one of
+/// degree up to 30.
 #[derive(Drop)]
 pub struct TermFaces<'a> {
     pub term: &'a Term,
@@ -33,7 +35,7 @@ pub fn faces_of(t: &Term) -> TermFaces<'_>
 impl<'a> Faces for TermFaces<'a> {
     ghost space = { λ s. space_of s.term.now };
 
-    ghost has_faces = { λ s x. degree_of x ≤ 32 };
+    ghost has_faces = { λ s x. (degree_of x ≤ 32) × (cell_integer x.cell ≤ 2 ^ 40) };
 
     ghost has_degeneracies = { λ s x. degree_of x ≤ 30 };
 

@@ -9,13 +9,19 @@ use Rattle.term_lang.specs.declared.terms.Term.{Term}
 use Rattle.term_lang.specs.declared.terms.Term.TheVariants.{Sphere}
 use Rattle.term_lang.specs.Belongs.{IsSimplex}
 use Rattle.term_lang.specs.SpaceOf.{space_of}
+use Rattle.term_lang.proofs.SpacesOfTerms.{space-Sphere}
 use Rattle.space_faces.proofs.CellSteps.{bare_degree, bare_simplex}
 use Rattle.space_faces.proofs.SphereCells.{top-low}
 use Rattle.ez_flow.specs.Parts.{IsPairOf}
 use Rattle.ez_flow.proofs.PairCells.{pair-with}
 use Rattle.ez_maps.specs.Tensors.{bare, IsTensorOf}
-use Rattle.ez_maps.specs.declared.tensors.Tensor.{Tensor}
+use Rattle.tensor_red.specs.declared.tensors.Tensor.{Tensor}
+use Rattle.space_pairs.specs.Integers.{HasNoIntegers}
 use Rattle.space_pairs.specs.Parts.{IsLow}
+
+-- the circle holds no integers
+pub circle-plain : (t : Term) → t ≡ Sphere 1 → HasNoIntegers (space_of t)
+circle-plain t e = subst HasNoIntegers (sym (ap space_of e ∙ space-Sphere 1)) tt
 
 -- the cell of the circle as a simplex
 pub edge-low : (s : Simplex) → s.degens.mask ≡ 0 → s.cell ≡ Top 1 → IsLow (space_of (Sphere 1)) 1 s

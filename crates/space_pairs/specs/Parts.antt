@@ -16,6 +16,7 @@ use Rattle.spaces.specs.Simplicial.{Simplicial, IsSimplicial, has_degeneracy}
 use Rattle.spaces.specs.Spaces.{Space, Plain, set_of}
 use Rattle.spaces.specs.Orders.{ordered, mask}
 use Rattle.spaces.specs.EilenbergZilber.{linear}
+use Rattle.spaces.proofs.SpaceLaws.{space_set_laws}
 use Rattle.cells.specs.declared.cells.Simplex.{Simplex}
 use Rattle.cells.specs.Dim.{dim_of, degree_of, capped}
 use Rattle.term_lang.specs.Forms.{form}
@@ -23,10 +24,9 @@ use Rattle.term_lang.specs.Belongs.{is_cell, IsSimplex}
 use Rattle.term_lang.specs.Quote.{quote}
 use Rattle.term_lang.specs.NormalForms.{HasNormalForms}
 use Rattle.term_lang.proofs.CodeForms.{lt_is}
-use Rattle.oracle_iface.specs.Built.{IsBuilt}
+use Rattle.normal_forms.specs.Built.{IsBuilt}
+use Rattle.normal_forms.proofs.BuiltForms.{built_forms}
 use Rattle.space_faces.specs.Built.{IsAllowedBuilt}
-use Rattle.space_faces.proofs.AllowedBuilt.{told_allowed, told_built}
-use Rattle.space_faces.proofs.BuiltForms.{built_forms, allowed_laws}
 use Rattle.space_faces.proofs.Degeneracies.{made, room}
 use Rattle.ez_laws.specs.Sides.{IsLeft, IsRight}
 use Rattle.ez_laws.proofs.Sided.{space-left}
@@ -88,16 +88,16 @@ module _ {K : Type 0} (A : Simplicial K) (y : K) where
 
 module _ (X : Space) (kept : IsAllowedBuilt X) where
   abbrev allowed : IsAllowed X
-  allowed = told_allowed X kept
+  allowed = kept.0
 
   abbrev is_built : IsBuilt X
-  is_built = told_built X kept
+  is_built = kept.1
 
   abbrev forms : (n : ℕ) → n ≤ 32 → HasNormalForms X n
   forms n l = built_forms X allowed is_built n l
 
   laws : IsSimplicial (set_of X)
-  laws = allowed_laws X allowed
+  laws = space_set_laws X allowed.0
 
   low_mask : (n : ℕ) (s : Simplex) → IsLow X n s → s.degens.mask < 2 ^ n
   low_mask n s h = lt_is s.degens.mask (2 ^ n) (and_left (nat_lt s.degens.mask (2 ^ n)) (is_cell s.cell X (n - length (mask_word s.degens.mask))) h.0)

@@ -6,6 +6,7 @@ ghost use Rattle.cells.specs.Dim.{dim_of};
 ghost use Rattle.term_lang.specs.Forms.{form};
 ghost use Rattle.term_lang.specs.Quote.{quote};
 ghost use Rattle.term_lang.specs.SpaceOf.{space_of};
+ghost use Rattle.space_pairs.specs.Integers.{HasNoIntegers, no_integers_prop};
 ghost use Rattle.space_pairs.specs.Parts.{IsLow, low_graded, space_forms, space_read, space_left, space_right};
 
 use cells::{Cell, Simplex, dim};
@@ -18,11 +19,14 @@ use term_lang::Faces;
 
 /// The faces of pairs of simplices of two spaces, of degrees up to 32: each face of a left simplex is one
 /// simplex (May, Simplicial Objects, chapter I, on products). A bundle and a path space take those of base
-/// and fibre, and the differential of their twist beside them.
+/// and fibre, and the differential of their twist beside them. The two spaces are tables and spheres, or
+/// suspensions of these, whose simplices hold no integers.
 #[derive(Drop)]
 pub struct SpacePair<'a> {
     pub left: TermFaces<'a>,
     pub right: TermFaces<'a>,
+    pub ghost left_plain: { HasNoIntegers (space_of left.term.now) } by { no_integers_prop (space_of left.term.now) },
+    pub ghost right_plain: { HasNoIntegers (space_of right.term.now) } by { no_integers_prop (space_of right.term.now) },
 }
 
 impl<'a> FlowFaces for SpacePair<'a> {

@@ -5,3 +5,4 @@ pub mod UpQuotes
 pub mod RuleReads
 pub mod RuleLimits
 pub mod ShownSuspensions
+pub mod BuiltSpaces

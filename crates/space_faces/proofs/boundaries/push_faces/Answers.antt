@@ -1,4 +1,4 @@
-use Rattle.std.proofs.Common.{◌≡◌, ◌+◌, ◌*◌, ◌%◌, ◌<◌, suc, add-one, sym, ◌∙◌, ap, subst, arith}
+use Rattle.std.proofs.Common.{◌≡◌, ◌+◌, ◌*◌, ◌%◌, ◌^◌, ◌<◌, ◌≤◌, suc, add-one, sym, ◌∙◌, ap, subst, arith}
 use Rattle.std.proofs.Math.Nat.{mod-lt}
 use Rattle.fp_field.specs.Field.{number}
 use Rattle.fp_field.specs.Chains.{weigh}
@@ -7,6 +7,7 @@ use Rattle.chain_core.specs.Formal.{numbers}
 use Rattle.cells.specs.Dim.{dim_of}
 use Rattle.term_lang.specs.SpaceOf.{space_of}
 use Rattle.term_lang.specs.Quote.{degens_of}
+use Rattle.oracle_iface.specs.CodeSizes.{cell_integer}
 use Rattle.space_faces.specs.Boundaries.{IsLowCell}
 use Rattle.space_faces.specs.CodeBoundaries.{code_d}
 use Rattle.space_faces.proofs.FaceSteps.{next_sign}
@@ -24,6 +25,9 @@ loop-i-init c = record {
 pub face_of-requires-clause-simplex : goal.face_of-requires-clause-simplex
 face_of-requires-clause-simplex c =
     bare_simplex (space_of c.args.t.now) (record { degens = degens_of 0; cell = c.in_ok-copy_cell.field-0 }) (λ i. 0) (subst (IsLowCell (space_of c.args.t.now)) (sym c.in_ok-copy_cell.ensures) c.requires.cell)
+
+pub face_of-requires-clause-integers : goal.face_of-requires-clause-integers
+face_of-requires-clause-integers c = subst (λ k. cell_integer k ≤ 2 ^ 40) (sym c.in_ok-copy_cell.ensures) c.requires.cell.2
 
 pub loop-i-preserved : goal.loop-i-preserved
 loop-i-preserved c =

@@ -7,7 +7,7 @@ use Rattle.ez_laws.specs.Sides.{on_keys}
 use Rattle.term_lang.specs.Forms.{form}
 use Rattle.term_lang.specs.SpaceOf.{space_of}
 use Rattle.space_pairs.specs.Parts.{IsLow}
-use Rattle.space_pairs.proofs.OneFace.{one-each, one-weights, face-simplex, face-degree, face-low}
+use Rattle.space_pairs.proofs.OneFace.{one-each, one-weights, face-simplex, face-degree, face-within, face-low}
 use Rattle.space_pairs.proofs.pairs.SpacePairFlowFaces.left_face.Goals as goal
 
 pub face-requires-clause-simplex : goal.face-requires-clause-simplex
@@ -38,9 +38,7 @@ pub face-requires-clause-within : goal.face-requires-clause-within
 face-requires-clause-within c =
     let X = space_of c.args.self.now.left.term.now in
     let kept = c.args.self.now.left.allowed in
-    let n = c.requires.0 in
-    let s = c.args.s.now in
-    let e = face-degree X kept n s c.requires.1 in omega (arith, e, c.requires.2)
+    face-within X kept c.requires.0 c.args.s.now c.requires.1 c.args.self.now.left_plain
 
 pub returns-clause-simplices : goal.returns-clause-simplices
 returns-clause-simplices c =

@@ -1,5 +1,0 @@
-use Rattle.normal_forms.proofs.BuiltForms.{built_forms, built_cells}
-use Rattle.normal_forms.proofs.laws.covered_normal_forms.Goals as goal
-
-pub returns : goal.returns
-returns c = record { simplices = built_forms; cells = built_cells }

@@ -1,0 +1,13 @@
+use Rattle.std.proofs.Common.{sym, ◌∙◌, subst}
+use Rattle.fp_field.specs.declared.prime.Prime.TheVariants.{Five}
+use Rattle.term_lang.specs.declared.terms.Term.TheVariants.{Suspension, KZ1}
+use Rattle.oracle_iface.specs.declared.keys.Op.TheVariants.{F}
+use Rattle.oracle_iface.specs.declared.keys.Place.TheVariants.{Big as BigPlace}
+use Rattle.normal_forms.specs.Built.{IsTreated}
+use Rattle.rule_book.proofs.SuspendedKey.{up_three-treated}
+use Rattle.rule_book.proofs.tests.suspended_key.Goals as goal
+
+pub returns : goal.returns
+returns c =
+    subst (λ t. IsTreated (record { op = F; prime = Five; place = BigPlace c.in_ok-up_of_three.field-0; term = t })) (sym (c.in_ok-new.ensures ∙ c.in_ok-term.ensures))
+    (subst (λ x. IsTreated (record { op = F; prime = Five; place = BigPlace x; term = Suspension KZ1 })) (sym c.in_ok-up_of_three.ensures) (up_three-treated Five))
