@@ -18,6 +18,8 @@ use Rattle.spaces.proofs.TableDegenerate.{word-degenerate}
 use Rattle.normal_forms.specs.Built.{IsBuilt}
 use Rattle.normal_forms.proofs.FormsOfCells.{IsExact}
 use Rattle.normal_forms.proofs.Suspended.{Bare, bare_of}
+use Rattle.normal_forms.proofs.PairedProducts.{product_exact}
+use Rattle.normal_forms.proofs.PairedBundles.{bundle_exact}
 
 then_equal : (o r : Ordering) → o ≡ Equal → r ≡ Equal → ordering_then o r ≡ Equal
 then_equal o r e f = λ i. ordering_then (e i) (f i)
@@ -32,11 +34,11 @@ rows-alike y = then_equal (slice_cmp nat_cmp y.0 y.0) (nat_cmp y.1 y.1) (tied_it
 pub alike : (X : Space) → IsBuilt X → (y : Plain X) → plain_cmp X y y ≡ Equal
 alike (table t) built y = rows-alike y
 alike (sphere m) built y = rows-alike y
-alike (product a b) built y = absurd built
+alike (product a b) built y = then_equal (plain_cmp a y.0 y.0) (plain_cmp b y.1 y.1) (alike a built.0 y.0) (alike b built.1 y.1)
 alike (suspension a) built None = refl
 alike (suspension a) built (Some s) = then_equal (nat_cmp s.0 s.0) (plain_cmp a s.1 s.1) (tied_itself nat_cmp_total s.0) (alike a built s.1)
 alike kz1 built y = ints-alike y
-alike (bundle t c) built y = absurd built
+alike (bundle t c) built y = then_equal (plain_cmp (table t) y.0 y.0) (plain_cmp kz1 y.1 y.1) (rows-alike y.0) (ints-alike y.1)
 alike (loops a) built y = absurd built
 alike (paths a) built y = absurd built
 alike (kzm1 m) built y = absurd built
@@ -68,17 +70,25 @@ up-apart a allowed apart n x y is js h k e = by (bare_of a allowed n x is h) (ba
         let f : cell_cmp a (n - 1) p.under q.under ≡ Equal = (λ i. cell_cmp (suspension a) n (sym p.is i) (sym q.is i)) ∙ e in
         p.is ∙ ap (λ z. Some (0, z)) (apart (n - 1) p.under q.under p.is_in q.is_in p.bare q.bare f) ∙ sym q.is
 
+-- the exactness of the parts of a pair
+exact_by : (X : Space) (is : Admits X) → IsBuilt X → Apart X → IsExact X (space_set_laws X is)
+exact_by X is built apart = record { alike = alike X built; apart = apart }
+
 pub cells-apart : (X : Space) → Admits X → IsBuilt X → Apart X
 cells-apart (table t) is built = rows-apart t (space_set_laws (table t) is)
 cells-apart (sphere m) is built = rows-apart (sphere_rows m) (space_set_laws (sphere m) is)
-cells-apart (product a b) is built = absurd built
+cells-apart (product a b) is built =
+    (product_exact a b (space_set_laws a is.0) (space_set_laws b is.1) (exact_by a is.0 built.0 (cells-apart a is.0 built.0))
+    (exact_by b is.1 built.1 (cells-apart b is.1 built.1)) (space_set_laws (product a b) is)).apart
 cells-apart (suspension a) is built = up-apart a is (cells-apart a is.0 built)
 cells-apart kz1 is built = λ n x y ix iy h k e. plain-apart kz1 x y e
-cells-apart (bundle t c) is built = absurd built
+cells-apart (bundle t c) is built =
+    (bundle_exact t c (space_set_laws (table t) is.0) (space_set_laws kz1 tt) (exact_by (table t) is.0 tt (rows-apart t (space_set_laws (table t) is.0)))
+    (exact_by kz1 tt tt (λ n x y ix iy h k e. plain-apart kz1 x y e)) (space_set_laws (bundle t c) is)).apart
 cells-apart (loops a) is built = absurd built
 cells-apart (paths a) is built = absurd built
 cells-apart (kzm1 m) is built = absurd built
 cells-apart (cyclic_bundle t m c) is built = absurd built
 
 pub exact_order : (X : Space) (is : Admits X) → IsBuilt X → IsExact X (space_set_laws X is)
-exact_order X is built = record { alike = alike X built; apart = cells-apart X is built }
+exact_order X is built = exact_by X is built (cells-apart X is built)

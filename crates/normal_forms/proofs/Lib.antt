@@ -7,4 +7,5 @@ pub mod BuiltForms
 pub mod PairCells
 pub mod PairedProducts
 pub mod PairedBundles
-pub mod PairForms
+pub mod PairedForms
+pub mod BuiltPairs

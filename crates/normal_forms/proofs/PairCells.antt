@@ -1,16 +1,15 @@
 -- The cells of a product and of a twisted product of two spaces: pairs of simplices of one degree without a common degeneracy (Eilenberg and
 -- Zilber; May, Simplicial Objects in Algebraic Topology, chapter I).
-use Rattle.std.proofs.Common.{◌≡◌, ℕ, zero, suc, ◌+◌, ◌-◌, ◌%◌, ◌^◌, ◌<◌, ◌≤◌, Bool, true, false, ◌&&◌, ◌||◌, ◌==◌, nat_lt, ◌⊎◌, inl, inr, length, refl, sym, ◌∙◌, ap, subst, arith, true≢false}
+use Rattle.std.proofs.Common.{◌≡◌, ℕ, zero, suc, ◌+◌, ◌-◌, ◌^◌, ◌<◌, ◌≤◌, Bool, true, false, ◌&&◌, ◌||◌, nat_lt, length, refl, sym, ◌∙◌, ap, subst, arith, true≢false}
 use Rattle.std.specs.Prelude.{bit_and}
 use Rattle.std.specs.Int.Bits.{and_lt}
-use Rattle.std.proofs.lemmas.Bool.{cases_lt}
 use Rattle.std.proofs.lemmas.Cmp.{tied_itself, nat_cmp_total}
 use Rattle.std.proofs.lemmas.Map.Lookups.{exact_unsigned}
 use Rattle.std.proofs.lemmas.Nat.{pow_pos}
 use Rattle.std.specs.Ordering.{ordering_then, nat_cmp, is_eq}
 use Rattle.std.specs.declared.cmp.Ordering.{Ordering}
 use Rattle.std.specs.declared.cmp.Ordering.TheVariants.{Less, Equal, Greater}
-use Rattle.simp_ops.specs.Words.{IsWord, has}
+use Rattle.simp_ops.specs.Words.{IsWord}
 use Rattle.simp_ops.specs.Bits.{bit, places, mask_word}
 use Rattle.simp_ops.proofs.Numbers.{bit-and}
 use Rattle.simp_ops.proofs.MaskWords.{mask_of, has-places, places-mask_of, places_told, bit-zero}
@@ -18,25 +17,24 @@ use Rattle.simp_ops.proofs.PlacesOf.{places_same, is_eq as is_eq_nat}
 use Rattle.simp_ops.proofs.Squeezed.{and_left, and_right}
 use Rattle.spaces.specs.Simplicial.{Simplicial, IsSimplicial, some_below, has_degeneracy, is_degenerate}
 use Rattle.spaces.specs.Spaces.{Space, Plain, set_of}
-use Rattle.spaces.specs.Orders.{mask, cell_of, dim_of, cell_cmp as typed_cmp, simplex_cmp as typed_simplex_cmp, pair_cmp, two_cmp, plain_cmp, ordered}
-use Rattle.cells.specs.declared.cells.Cell.{Cell, out-Cell, roll-Cell, roll-out-Cell, out-roll-Cell}
+use Rattle.spaces.specs.Orders.{mask, cell_of, dim_of, cell_cmp as typed_cmp, simplex_cmp as typed_simplex_cmp, pair_cmp, two_cmp, plain_cmp}
+use Rattle.cells.specs.declared.cells.Cell.{Cell, out-Cell, out-roll-Cell}
 use Rattle.cells.specs.declared.cells.Cell.TheVariants.{Pair, rolls-Pair}
 use Rattle.cells.specs.declared.cells.Cell.TheOpen.{Cell-F}
-use Rattle.cells.specs.declared.cells.Letter.{Letter}
 use Rattle.cells.specs.declared.cells.Simplex.{Simplex}
-use Rattle.cells.specs.Dim.{dim_of as cell_dim, degree_of}
+use Rattle.cells.specs.Dim.{dim_of as cell_dim}
 use Rattle.cells.specs.Order.{cell_cmp, simplex_cmp, kinds_cmp, kind_in}
 use Rattle.cells.proofs.Dimensions.{dim-Pair}
 use Rattle.cells.proofs.Compared.{cell_cmp-then, pairs}
 use Rattle.term_lang.specs.Degenerated.{degenerated}
 use Rattle.term_lang.specs.Forms.{cell_form, form}
-use Rattle.term_lang.specs.Belongs.{is_cell, is_simplex, are_apart, IsCell, IsSimplex}
-use Rattle.term_lang.specs.Quote.{quote_cell, quote}
+use Rattle.term_lang.specs.Belongs.{is_cell, is_simplex, are_apart, IsSimplex}
+use Rattle.term_lang.specs.Quote.{quote}
 use Rattle.term_lang.specs.NormalForms.{HasNormalForms, HasNormalCells}
 use Rattle.term_lang.proofs.CodeForms.{lt_is}
 use Rattle.term_lang.proofs.RowCells.{eq_is}
 use Rattle.normal_forms.proofs.Degeneracies.{none_below, all_fail}
-use Rattle.normal_forms.proofs.WordsBefore.{Before, Formed, formed, has_word, mask-before, dim-before, cell-before}
+use Rattle.normal_forms.proofs.WordsBefore.{Formed, formed, has_word, mask-before, dim-before, cell-before}
 use Rattle.normal_forms.proofs.FormsOfCells.{IsExact, known, forms_of_cells}
 
 -- ---- orders
@@ -146,7 +144,7 @@ pair_apart a b la lb ea eb n z w h k g l e =
     λ i. (p i, q i)
 
 -- no place in both masks
-no_bits : (n a b : ℕ) → n ≤ 32 → a < 2 ^ n → b < 2 ^ n → ((j : ℕ) → j < n → bit a j && bit b j ≡ false) → bit_and a b ≡ 0
+pub no_bits : (n a b : ℕ) → n ≤ 32 → a < 2 ^ n → b < 2 ^ n → ((j : ℕ) → j < n → bit a j && bit b j ≡ false) → bit_and a b ≡ 0
 no_bits n a b most l m f =
     let k : bit_and a b < 2 ^ n = and_lt n a b l m in
     places_told n (bit_and a b) 0 k (pow_pos n) (places_same n (bit (bit_and a b)) (bit 0) (λ j h. bit-and a b j ∙ f j h ∙ sym (bit-zero j)))

@@ -1,27 +1,21 @@
 -- The cells of products (May, Simplicial Objects in Algebraic Topology, chapter I).
-use Rattle.std.proofs.Common.{◌≡◌, ℕ, zero, suc, ◌<◌, ◌≤◌, Bool, true, false, ◌&&◌, refl, sym, ◌∙◌, ap, subst, arith, List, ℤ, true≢false}
-use Rattle.std.specs.declared.cmp.Ordering.TheVariants.{Equal}
-use Rattle.spaces.specs.Simplicial.{Simplicial, IsSimplicial, some_below, has_degeneracy, is_degenerate}
-use Rattle.spaces.specs.Products.{twisted_set, IsTwisting}
-use Rattle.spaces.specs.Tables.{Table}
-use Rattle.spaces.specs.Nerves.{integers, nerve_times}
-use Rattle.spaces.specs.Cocycles.{cocycle_twisting}
-use Rattle.spaces.specs.Spaces.{Space, product, bundle, table, kz1, Plain, set_of}
-use Rattle.spaces.specs.Orders.{cell_cmp as typed_cmp, plain_cmp, ordered}
+use Rattle.std.proofs.Common.{◌≡◌, ℕ, ◌≤◌, true, false, sym, ◌∙◌, ap, subst, true≢false}
+use Rattle.spaces.specs.Simplicial.{IsSimplicial, is_degenerate}
+use Rattle.spaces.specs.Spaces.{Space, product, Plain, set_of}
+use Rattle.spaces.specs.Orders.{plain_cmp, ordered}
 use Rattle.cells.specs.declared.cells.Cell.{Cell, out-Cell, roll-Cell, roll-out-Cell}
 use Rattle.cells.specs.declared.cells.Cell.TheVariants.{Pair, rolls-Pair}
 use Rattle.cells.specs.declared.cells.Cell.TheOpen.{Cell-F}
 use Rattle.cells.specs.declared.cells.Letter.{Letter}
 use Rattle.cells.specs.declared.cells.Simplex.{Simplex}
 use Rattle.cells.specs.Order.{cell_cmp}
-use Rattle.term_lang.specs.Forms.{cell_form, form}
+use Rattle.term_lang.specs.Forms.{cell_form}
 use Rattle.term_lang.specs.Belongs.{is_cell, IsCell}
 use Rattle.term_lang.specs.Quote.{quote_cell, quote}
 use Rattle.term_lang.specs.NormalForms.{HasNormalCells}
 use Rattle.term_lang.proofs.CellForms.{tested, is_cell-roll, is_cell-Pair, form-Pair}
-use Rattle.normal_forms.proofs.Degeneracies.{has_is}
 use Rattle.normal_forms.proofs.FormsOfCells.{IsExact, bare-order}
-use Rattle.normal_forms.proofs.PairCells.{IsPairCell, pair_parts, pair_is, pair_form, pair_quote, dimension, form_in, form_bare, quoted_back, formed_back, quoted_pair, in_order, pair_apart, both_equal, both_have, some_same}
+use Rattle.normal_forms.proofs.PairCells.{IsPairCell, pair_parts, pair_is, pair_form, dimension, form_in, form_bare, quoted_back, formed_back, quoted_pair, in_order, pair_apart, both_equal}
 
 -- a pair that comes rolled
 pub on_layer : (P : Cell → Type 0) (x y : Simplex) → P (Pair x y) → P (roll-Cell (Cell-F.Pair x y))

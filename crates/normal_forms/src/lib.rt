@@ -1,7 +1,11 @@
-//! Which constructions there is code for, and the normal forms of their simplices; those of products and circle bundles too. Laws
-//! alone: a function here has an empty body, and its contract is a law.
+//! Which constructions there is code for, the normal forms of their simplices, and pairs of simplices in normal form. A function with an
+//! empty body is a law: its contract says it.
 #![tactic(auto)]
 
 mod laws;
+mod pairs;
 
-pub use laws::{built_normal_forms, pair_normal_forms, suspension_normal_forms};
+pub use laws::{
+    built_normal_forms, pair_sizes, pairs_of_bundles, pairs_of_products, suspension_normal_forms,
+};
+pub use pairs::{paired, parts_of};

@@ -1,6 +1,9 @@
 pub mod BuiltTerms
 pub mod FaceSteps
 pub mod ShownChains
+pub mod FibreLists
+pub mod ProductFaces
+pub mod BundleFaces
 pub mod SphereFaces
 pub mod MovedUp
 pub mod UpFaces
@@ -9,3 +12,4 @@ pub mod CellSteps
 pub mod Degeneracies
 pub mod SphereCells
 pub mod IntegerCells
+pub mod WorkedPairs

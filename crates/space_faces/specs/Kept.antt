@@ -40,11 +40,11 @@ coded_plain (cyclic_bundle t m c) = coded× coded_row (coded_list coded_ℕ)
 in_prop : (X : Space) → IsBuilt X → (n : ℕ) (x : Plain X) → IsProp ((set_of X).In n x)
 in_prop (table t) built n x = hlevel (props, word_prop)
 in_prop (sphere m) built n x = hlevel (props, word_prop)
-in_prop (product a b) built n x = absurd built
+in_prop (product a b) built n x = ×_prop (in_prop a built.0 n x.0) (in_prop b built.1 n x.1)
 in_prop (suspension a) built n None = Unit-prop
 in_prop (suspension a) built n (Some s) = hlevel (props, in_prop a built (n - 1 - s.0) s.1)
 in_prop kz1 built n x = hlevel props
-in_prop (bundle t c) built n x = absurd built
+in_prop (bundle t c) built n x = hlevel (props, word_prop)
 in_prop (loops a) built n x = absurd built
 in_prop (paths a) built n x = absurd built
 in_prop (kzm1 m) built n x = absurd built
@@ -68,10 +68,10 @@ module _ {K : Type 0} (X : Simplicial K) (set : IsSet K) (in_one : (x : K) → I
 built_prop : (X : Space) → IsProp (IsBuilt X)
 built_prop (table t) = Unit-prop
 built_prop (sphere m) = Unit-prop
-built_prop (product a b) = hlevel
+built_prop (product a b) = ×_prop (built_prop a) (built_prop b)
 built_prop (suspension a) = built_prop a
 built_prop kz1 = Unit-prop
-built_prop (bundle t c) = hlevel
+built_prop (bundle t c) = Unit-prop
 built_prop (loops a) = hlevel
 built_prop (paths a) = hlevel
 built_prop (kzm1 m) = hlevel
@@ -80,10 +80,10 @@ built_prop (cyclic_bundle t m c) = hlevel
 admits_prop : (X : Space) → IsBuilt X → IsProp (Admits X)
 admits_prop (table t) built = hlevel (props, word_prop)
 admits_prop (sphere m) built = hlevel props
-admits_prop (product a b) built = absurd built
+admits_prop (product a b) built = ×_prop (admits_prop a built.0) (admits_prop b built.1)
 admits_prop (suspension a) built = ×_prop (admits_prop a built) (vertex_prop (set_of a) (Coded-set (coded_plain a)) (in_prop a built 0))
 admits_prop kz1 built = Unit-prop
-admits_prop (bundle t c) built = absurd built
+admits_prop (bundle t c) built = hlevel (props, word_prop)
 admits_prop (loops a) built = absurd built
 admits_prop (paths a) built = absurd built
 admits_prop (kzm1 m) built = absurd built

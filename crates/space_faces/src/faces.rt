@@ -10,10 +10,12 @@ ghost use Rattle.oracle_iface.specs.CodeSizes.{cell_integer};
 ghost use Rattle.normal_forms.specs.Built.{IsBuilt};
 
 use crate::bases::degenerate_vertex;
+use crate::bundles::bundle_face;
 use crate::spheres::sphere_face;
 use crate::suspensions::{before, cell_under, raised};
 use cells::{Simplex, copy_cell, dim};
 use kz1_group::ints_simplex_face;
+use normal_forms::{paired, parts_of};
 use simp_ops::{FacePast, face_past};
 use std::alloc::{AllocError, Global};
 use term_lang::{Term, table_face};
@@ -21,7 +23,8 @@ use term_lang::{Term, table_face};
 /// The face d_i of a simplex of the space of a term, of degree 1 to 32 and with integers of magnitude
 /// at most 2^40. In a suspension it is what the simplicial identities leave of the degeneracies, before
 /// the cell, or before the face of the cell: d_0 Up(c) is a degeneracy of the base, and d_(j+1) Up(c)
-/// is Up(d_j c) (May, Simplicial Objects, chapter VI, 27).
+/// is Up(d_j c) (May, Simplicial Objects, chapter VI, 27). In a product it is the pair of the faces, in
+/// normal form; in a circle bundle so is it, but that d_0 moves the fibre by the twisting operator (chapter IV, 18).
 pub fn face_of(alloc: Global, t: &Term, i: u32, x: &Simplex) -> Result<Simplex, AllocError>
     requires allowed { IsAllowed (space_of t.now) }
     requires built { IsBuilt (space_of t.now) }
@@ -37,6 +40,7 @@ pub fn face_of(alloc: Global, t: &Term, i: u32, x: &Simplex) -> Result<Simplex, 
         Term::Table(table) => Ok(table_face(table, i, x)),
         Term::Sphere(m) => sphere_face(alloc, *m, i, x),
         Term::KZ1 => ints_simplex_face(alloc, i, x),
+        Term::Bundle(base, values) => Ok(bundle_face(alloc, base, values, i, x)?),
         Term::Suspension(part) => match face_past(i, x.degens) {
             FacePast::Absorbed(degens) => Ok(Simplex {
                 degens,
@@ -51,6 +55,12 @@ pub fn face_of(alloc: Global, t: &Term, i: u32, x: &Simplex) -> Result<Simplex, 
                 Ok(before(degens, raised(alloc, face)?))
             }
         },
+        Term::Product(a, b) => {
+            let (left, right) = parts_of(alloc, x)?;
+            let left_face = face_of(alloc, a.get(), i, &left)?;
+            let right_face = face_of(alloc, b.get(), i, &right)?;
+            Ok(paired(alloc, left_face, right_face)?)
+        }
         _ => unreachable!(),
     }
 }

@@ -3,6 +3,7 @@
 
 mod bases;
 mod boundaries;
+mod bundles;
 mod faces;
 mod laws;
 mod spheres;
@@ -13,5 +14,7 @@ pub use boundaries::boundary;
 pub use laws::quoted_chains;
 pub use term_faces::{TermFaces, faces_of};
 
+#[cfg(test)]
+mod pair_tests;
 #[cfg(test)]
 mod tests;
