@@ -20,8 +20,10 @@ pub mod ResolveSpaces
 pub mod ResolveFound
 pub mod ResolveShifts
 pub mod ResolveRaised
+pub mod ResolvePairs
 pub mod ResolveLimits
 pub mod ResolveTerms
 pub mod ResolveSpheres
 pub mod ResolveCircle
+pub mod ResolveTwoSphere
 pub mod Worked

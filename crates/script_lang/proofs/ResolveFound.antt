@@ -1,5 +1,6 @@
 -- What is found for a text is a word before what is found for its body.
 use Rattle.std.proofs.Common.{◌≡◌, ℕ, ℤ, ◌+◌, ◌-◌, ◌^◌, ◌<◌, ◌≤◌, Bool, true, false, cond, nat_lt, ◌&&◌, List, [], length, Option, Some, None, refl, sym, ◌∙◌, ap, subst, arith}
+use Rattle.std.specs.Prelude.{IfSome}
 use Rattle.simp_ops.specs.declared.degens.Degens.{Degens}
 use Rattle.simp_ops.specs.Words.{IsWord, compose_words}
 use Rattle.simp_ops.specs.Bits.{mask_word}
@@ -28,7 +29,7 @@ use Rattle.script_lang.specs.declared.simplices.SimplexText.{SimplexText}
 use Rattle.script_lang.specs.declared.simplices.BodyText.{BodyText}
 use Rattle.script_lang.specs.declared.simplices.BodyText.TheVariants.{Ints}
 use Rattle.script_lang.specs.Meaning.{is_prefix, mapped, meaning, when}
-use Rattle.script_lang.specs.Resolved.{IsFound, body_meaning, body_cell, bare_simplex}
+use Rattle.script_lang.specs.Resolved.{IsPrefixed, IsFound, body_meaning, body_cell, bare_simplex}
 use Rattle.script_lang.proofs.ResolveMeanings.{meaning-is, meaning-Ints}
 use Rattle.script_lang.proofs.ResolvePrefixes.{word_of_prefix}
 use Rattle.script_lang.proofs.ResolveSpaces.{HasCellBodies}
@@ -123,6 +124,22 @@ module _ (a : Space) (n : ℕ) (text : SimplexText) where
           simplex_is a n y (compose_words w r) m composed_word ((λ i. is_cell (c i) a (sym left i)) ∙ parts.cell),
         )
 
+-- what is found for the body of a text, and a word before it
+module _ (a : Space) (n : ℕ) (text : SimplexText) (allowed : Admits a) (built : IsBuilt a) (most : n ≤ 32) (right : is_prefix n text.degens ≡ true) where
+  pub text_fits : (d : Degens) → mask_word d.mask ≡ text.degens → (found : Option Simplex)
+      → IsFound a (n - length text.degens) (body_meaning text.body a (n - length text.degens)) found
+      → IfSome found (λ x. IsWord 32 (compose_words (mask_word d.mask) (mask_word x.degens.mask)))
+  text_fits d e None h = tt
+  text_fits d e (Some x) h =
+      subst (λ w. IsWord 32 (compose_words w (mask_word x.degens.mask))) (sym e) (composed_fits a n text allowed built most right x h.1)
+
+  pub text_found : (d : Degens) → mask_word d.mask ≡ text.degens → (found y : Option Simplex)
+      → IsFound a (n - length text.degens) (body_meaning text.body a (n - length text.degens)) found → IsPrefixed d found y → IsFound a n (meaning text a n) y
+  text_found d e None y h b = subst (IsFound a n (meaning text a n)) (sym b) (no_body a n text h)
+  text_found d e (Some x) y h b =
+      subst (IsFound a n (meaning text a n)) (sym b.1)
+      (prefixed a n text allowed built most right x h.1 h.0 b.0 (b.2 ∙ ap (λ w. compose_words w (mask_word x.degens.mask)) e) b.3)
+
 -- ---- cells
 
 pub bare_is : (a : Space) (n : ℕ) (c : Cell) → IsCell a n c → IsSimplex a n (bare_simplex c)
@@ -169,10 +186,9 @@ list_none body n list e d =
 
 -- ---- what is found, along equations
 
-pub found_for : (a : Space) (n : ℕ) (body : BodyText) (w v : List ℕ) (found given : Option Simplex) → w ≡ v → found ≡ given
-    → IsFound a (n - length w) (body_meaning body a (n - length w)) found → IsFound a (n - length v) (body_meaning body a (n - length v)) given
-found_for a n body w v found given e f h =
-    subst (IsFound a (n - length v) (body_meaning body a (n - length v))) f (subst (λ u. IsFound a (n - length u) (body_meaning body a (n - length u)) found) e h)
+pub found_at : (a : Space) (n : ℕ) (body : BodyText) (w v : List ℕ) (found : Option Simplex) → w ≡ v
+    → IsFound a (n - length w) (body_meaning body a (n - length w)) found → IsFound a (n - length v) (body_meaning body a (n - length v)) found
+found_at a n body w v found e h = subst (λ u. IsFound a (n - length u) (body_meaning body a (n - length u)) found) e h
 
 pub text_for : (a : Space) (n : ℕ) (v x : SimplexText) (found given : Option Simplex) → v ≡ x → found ≡ given → IsFound a n (meaning v a n) found → IsFound a n (meaning x a n) given
 text_for a n v x found given e f h = subst (IsFound a n (meaning x a n)) f (subst (λ u. IsFound a n (meaning u a n) found) e h)

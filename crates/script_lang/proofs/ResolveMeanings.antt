@@ -1,11 +1,11 @@
 -- What texts and bodies mean, one layer at a time.
-use Rattle.std.proofs.Common.{◌≡◌, ℕ, ℤ, List, None, sym, ◌∙◌, ap, subst}
+use Rattle.std.proofs.Common.{◌≡◌, ℕ, ℤ, List, None, refl, sym, ◌∙◌, ap, subst}
 use Rattle.spaces.specs.Tables.{Table}
-use Rattle.spaces.specs.Spaces.{Space, table, sphere, suspension, kz1}
+use Rattle.spaces.specs.Spaces.{Space, table, sphere, product, suspension, kz1, bundle}
 use Rattle.script_lang.specs.declared.simplices.SimplexText.{SimplexText, fold-roll-SimplexText}
 use Rattle.script_lang.specs.declared.simplices.LetterText.{LetterText, fold-LetterText}
 use Rattle.script_lang.specs.declared.simplices.BodyText.{BodyText, roll-BodyText, out-BodyText, roll-out-BodyText, map-BodyText, fold-roll-BodyText}
-use Rattle.script_lang.specs.declared.simplices.BodyText.TheVariants.{Star, Name, Up, Ints, rolls-Star, rolls-Name, rolls-Up, rolls-Ints}
+use Rattle.script_lang.specs.declared.simplices.BodyText.TheVariants.{Star, Name, Up, Pair, Ints, rolls-Star, rolls-Name, rolls-Up, rolls-Pair, rolls-Ints}
 use Rattle.script_lang.specs.declared.simplices.BodyText.TheOpen.{BodyText-F}
 use Rattle.script_lang.specs.Meaning.{BodyMeaning, LetterMeaning, Meaning, body_step, letter_step, simplex_step, meaning}
 use Rattle.script_lang.specs.Resolved.{body_meaning}
@@ -31,6 +31,9 @@ meaning-Name name = ap body_meaning (sym (rolls-Name name)) ∙ rolled (BodyText
 
 pub meaning-Up : (x : SimplexText) → body_meaning (Up x) ≡ body_step (BodyText-F.Up (meaning x))
 meaning-Up x = ap body_meaning (sym (rolls-Up x)) ∙ rolled (BodyText-F.Up x)
+
+pub meaning-Pair : (x y : SimplexText) → body_meaning (Pair x y) ≡ body_step (BodyText-F.Pair (meaning x) (meaning y))
+meaning-Pair x y = ap body_meaning (sym (rolls-Pair x y)) ∙ rolled (BodyText-F.Pair x y)
 
 pub meaning-Ints : (list : List ℤ) → body_meaning (Ints list) ≡ body_step (BodyText-F.Ints list)
 meaning-Ints list = ap body_meaning (sym (rolls-Ints list)) ∙ rolled (BodyText-F.Ints list)
@@ -127,3 +130,39 @@ up_other a n body s r = by (cases_up body)
     by (at_base e) = absurd (s e)
     by (at_up x e) = absurd (r x e)
     by (no_up h) = h a n
+
+-- one of a product or of a circle bundle is a pair of texts, or means nothing
+pub data PairCases (body : BodyText) : Type 0 where
+  at_pair : (x y : SimplexText) → body ≡ Pair x y → PairCases body
+  no_pair : ((a b : Space) (n : ℕ) → body_meaning body (product a b) n ≡ None) → ((t : Table) (c : List ℤ) (n : ℕ) → body_meaning body (bundle t c) n ≡ None)
+      → PairCases body
+
+none_layer : (y : BodyText-F BodyText LetterText SimplexText) → ((a b : Space) (n : ℕ) → body_step (map-BodyText BodyText LetterText SimplexText BodyMeaning LetterMeaning Meaning body_meaning letter_meaning meaning y) (product a b) n ≡ None)
+    → ((t : Table) (c : List ℤ) (n : ℕ) → body_step (map-BodyText BodyText LetterText SimplexText BodyMeaning LetterMeaning Meaning body_meaning letter_meaning meaning y) (bundle t c) n ≡ None) → PairCases (roll-BodyText y)
+none_layer y f g = no_pair (λ a b n. ap (λ m. m (product a b) n) (rolled y) ∙ f a b n) (λ t c n. ap (λ m. m (bundle t c) n) (rolled y) ∙ g t c n)
+
+pair_cases : (y : BodyText-F BodyText LetterText SimplexText) → PairCases (roll-BodyText y)
+pair_cases BodyText-F.Star = none_layer BodyText-F.Star (λ a b n. refl) (λ t c n. refl)
+pair_cases (BodyText-F.Name name) = none_layer (BodyText-F.Name name) (λ a b n. refl) (λ t c n. refl)
+pair_cases (BodyText-F.Up x) = none_layer (BodyText-F.Up x) (λ a b n. refl) (λ t c n. refl)
+pair_cases (BodyText-F.Pair x y) = at_pair x y (rolls-Pair x y)
+pair_cases (BodyText-F.Ints list) = none_layer (BodyText-F.Ints list) (λ a b n. refl) (λ t c n. refl)
+pair_cases (BodyText-F.Word letters) = none_layer (BodyText-F.Word letters) (λ a b n. refl) (λ t c n. refl)
+
+pub cases_pair : (body : BodyText) → PairCases body
+cases_pair body = subst PairCases (roll-out-BodyText body) (pair_cases (out-BodyText body))
+
+module _ (body : BodyText) (r : (x y : SimplexText) → body ≡ Pair x y → ⊥) where
+  pub product_other : (a b : Space) (n : ℕ) → body_meaning body (product a b) n ≡ None
+  product_other a b n = by (cases_pair body)
+    where
+      by : PairCases body → body_meaning body (product a b) n ≡ None
+      by (at_pair x y e) = absurd (r x y e)
+      by (no_pair f g) = f a b n
+
+  pub bundle_other : (t : Table) (c : List ℤ) (n : ℕ) → body_meaning body (bundle t c) n ≡ None
+  bundle_other t c n = by (cases_pair body)
+    where
+      by : PairCases body → body_meaning body (bundle t c) n ≡ None
+      by (at_pair x y e) = absurd (r x y e)
+      by (no_pair f g) = g t c n

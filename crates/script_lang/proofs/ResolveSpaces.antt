@@ -1,5 +1,5 @@
 -- What bodies and texts mean is a simplex of the degree, that of tables and spheres is not degenerate, and simplices have normal forms.
-use Rattle.std.proofs.Common.{◌≡◌, ℕ, zero, suc, ◌+◌, ◌-◌, ◌<◌, ◌≤◌, Bool, true, false, cond, ◌==◌, ◌&&◌, nat_eq, [], ◌++◌, length, Option, Some, None, codes, decimal, sym, ◌∙◌, ap, subst, arith, refl}
+use Rattle.std.proofs.Common.{◌≡◌, ℕ, zero, suc, ◌+◌, ◌-◌, ◌<◌, ◌≤◌, Bool, true, false, cond, ◌==◌, ◌&&◌, nat_eq, List, [], ◌++◌, ℤ, length, Option, Some, None, codes, decimal, sym, ◌∙◌, ap, subst, arith, refl}
 use Rattle.std.specs.Cmp.Lexicographic.{pointwise}
 use Rattle.std.proofs.lemmas.Option.{none-some, same_Some, cond_some}
 use Rattle.simp_ops.specs.Words.{IsWord}
@@ -21,13 +21,13 @@ use Rattle.term_lang.proofs.SphereForms.{sphere_cells}
 use Rattle.term_lang.proofs.WordsAct.{degenerated_in}
 use Rattle.script_lang.specs.declared.simplices.BodyText.{BodyText}
 use Rattle.script_lang.specs.declared.simplices.SimplexText.{SimplexText}
-use Rattle.script_lang.specs.Meaning.{is_prefix, mapped, meaning, star, when, named_cell}
+use Rattle.script_lang.specs.Meaning.{is_prefix, mapped, meaning, star, when, named_cell, both_of}
 use Rattle.normal_forms.specs.Built.{IsBuilt}
 use Rattle.normal_forms.proofs.BuiltForms.{cells_of}
 use Rattle.normal_forms.proofs.FormsOfCells.{forms_of_cells}
 use Rattle.normal_forms.proofs.Exact.{exact_order}
 use Rattle.script_lang.specs.Resolved.{body_meaning}
-use Rattle.script_lang.proofs.ResolveMeanings.{meaning-is, meaning-Star, meaning-Up, meaning-Ints, BodyCases, at_star, at_name, at_other, cases_body, IntsCases, at_ints, no_ints, cases_ints, UpCases, at_base, at_up, no_up, cases_up}
+use Rattle.script_lang.proofs.ResolveMeanings.{meaning-is, meaning-Star, meaning-Up, meaning-Pair, meaning-Ints, BodyCases, at_star, at_name, at_other, cases_body, IntsCases, at_ints, no_ints, cases_ints, UpCases, at_base, at_up, no_up, cases_up, PairCases, at_pair, no_pair, cases_pair}
 use Rattle.script_lang.proofs.ResolvePrefixes.{word_of_prefix, length-word}
 use Rattle.script_lang.proofs.ResolveRows.{IsRow, named}
 
@@ -152,15 +152,47 @@ up_in a laws bodies body (suc n) y e = by (cases_up body)
         subst ((set_of (suspension a)).In (suc n)) g.gives (raise_in g.from (text_in a laws bodies x n g.from g.was) (is_base a g.from) refl)
     by (no_up h) = absurd (none-some y (sym (h a (suc n)) ∙ e))
 
+-- ---- pairs
+
+pub record Both {A B : Type 0} (x : Option A) (y : Option B) (z : A × B) : Type 0 where
+  pub left : A
+  pub right : B
+  pub left_was : x ≡ Some left
+  pub right_was : y ≡ Some right
+  pub gives : z ≡ (left, right)
+
+pub both-some : {A B : Type 0} (x : Option A) (y : Option B) (z : A × B) → both_of x y ≡ Some z → Both x y z
+both-some None y z e = absurd (none-some z e)
+both-some (Some x) None z e = absurd (none-some z e)
+both-some (Some x) (Some y) z e = record { left = x; right = y; left_was = refl; right_was = refl; gives = sym (same_Some (x, y) z e) }
+
+product_in : (a b : Space) → IsSimplicial (set_of a) → IsSimplicial (set_of b) → BodiesIn a → BodiesIn b → BodiesIn (product a b)
+product_in a b la lb ba bb body n z e = by (cases_pair body)
+  where
+    by : PairCases body → (set_of (product a b)).In n z
+    by (at_pair x y h) =
+        let g = both-some (meaning x a n) (meaning y b n) z (sym (ap (λ u. body_meaning u (product a b) n) h ∙ ap (λ f. f (product a b) n) (meaning-Pair x y)) ∙ e) in
+        subst ((set_of (product a b)).In n) (sym g.gives) (text_in a la ba x n g.left g.left_was, text_in b lb bb y n g.right g.right_was)
+    by (no_pair f g) = absurd (none-some z (sym (f a b n) ∙ e))
+
+bundle_in : (t : Table) (c : List ℤ) → IsSimplicial (table_set t) → IsSimplicial (set_of kz1) → BodiesIn (table t) → BodiesIn kz1 → BodiesIn (bundle t c)
+bundle_in t c la lb ba bb body n z e = by (cases_pair body)
+  where
+    by : PairCases body → (set_of (bundle t c)).In n z
+    by (at_pair x y h) =
+        let g = both-some (meaning x (table t) n) (meaning y kz1 n) z (sym (ap (λ u. body_meaning u (bundle t c) n) h ∙ ap (λ f. f (bundle t c) n) (meaning-Pair x y)) ∙ e) in
+        subst ((set_of (bundle t c)).In n) (sym g.gives) (text_in (table t) la ba x n g.left g.left_was, text_in kz1 lb bb y n g.right g.right_was)
+    by (no_pair f g) = absurd (none-some z (sym (g t c n) ∙ e))
+
 -- ---- all constructions that are built
 
 pub body_in : (a : Space) → IsBuilt a → Admits a → BodiesIn a
 body_in (table t) built is = (read_table t is).simplex
 body_in (sphere m) built is = (read_sphere m is.0).simplex
-body_in (product a b) built is = absurd built
+body_in (product a b) built is = product_in a b (space_set_laws a is.0) (space_set_laws b is.1) (body_in a built.0 is.0) (body_in b built.1 is.1)
 body_in (suspension a) built is = up_in a (space_set_laws a is.0) (body_in a built is.0)
 body_in kz1 built is = list_in
-body_in (bundle t c) built is = absurd built
+body_in (bundle t c) built is = bundle_in t c (space_set_laws (table t) is.0) (space_set_laws kz1 tt) (read_table t is.0).simplex list_in
 body_in (loops a) built is = absurd built
 body_in (paths a) built is = absurd built
 body_in (kzm1 m) built is = absurd built

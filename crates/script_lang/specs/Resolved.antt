@@ -5,8 +5,12 @@
 -- geometric simplices).
 --
 --   1-0:* gives in degree 2 of the 2-sphere the mask 3 before Base, and 0-1:* gives none; |0|3| gives in degree 2 of K(Z,1) the mask 1
---   before Ints of 3, and so does ^|0|3| in degree 3 of its suspension the mask 2 before Up of Ints of 3
+--   before Ints of 3, and so does ^|0|3| in degree 3 of its suspension the mask 2 before Up of Ints of 3; <0:S1,1:S1> gives in degree 2 of
+--   the product of two circles the mask 0 before the pair of the mask 1 and the mask 2, each before Top(1)
 use Rattle.std.specs.Prelude.{◌≡◌, ℕ, Option, Some, None}
+use Rattle.simp_ops.specs.declared.degens.Degens.{Degens}
+use Rattle.simp_ops.specs.Words.{compose_words}
+use Rattle.simp_ops.specs.Bits.{mask_word}
 use Rattle.spaces.specs.Spaces.{Space, Plain}
 use Rattle.values.specs.Sizes.{letters, integer}
 use Rattle.cells.specs.declared.cells.Cell.{Cell}
@@ -14,6 +18,7 @@ use Rattle.cells.specs.declared.cells.Simplex.{Simplex}
 use Rattle.term_lang.specs.Belongs.{IsSimplex}
 use Rattle.term_lang.specs.Forms.{form}
 use Rattle.term_lang.specs.Quote.{degens_of, quote, quote_cell}
+use Rattle.normal_forms.specs.Paired.{IsPaired}
 use Rattle.oracle_iface.specs.declared.bodies.Kind.{Kind}
 use Rattle.oracle_iface.specs.Limits.{kind_past}
 use Rattle.script_lang.specs.declared.simplices.SimplexText.{SimplexText}
@@ -55,3 +60,15 @@ body_cell body a n = mapped (quote_cell a n) (body_meaning body a n)
 -- a cell with no degeneracies before it
 abbrev pub bare_simplex : Cell → Simplex
 bare_simplex c = record { degens = degens_of 0; cell = c }
+
+-- a word before what is found: both words in one before its cell, or none
+abbrev pub IsPrefixed : Degens → Option Simplex → Option Simplex → Type 0
+IsPrefixed d None y = y ≡ None
+IsPrefixed d (Some x) y =
+    (z : Simplex) × (y ≡ Some z) × (mask_word z.degens.mask ≡ compose_words (mask_word d.mask) (mask_word x.degens.mask)) × (z.cell ≡ x.cell)
+
+-- the pair of what is found for two parts, or none where one of them is not found
+abbrev pub IsJoined : Option Simplex → Option Simplex → Option Simplex → Type 0
+IsJoined None y z = z ≡ None
+IsJoined (Some x) None z = z ≡ None
+IsJoined (Some x) (Some y) z = (w : Simplex) × (z ≡ Some w) × IsPaired x y w

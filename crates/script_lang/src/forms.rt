@@ -1,18 +1,19 @@
 // Normal forms of what bodies mean.
-ghost use Rattle.std.specs.Prelude.{◌≡◌, ◌<◌, ◌≤◌, ◌^◌, map, suc, IfOk};
+ghost use Rattle.std.specs.Prelude.{◌≡◌, ◌<◌, ◌≤◌, ◌^◌, map, suc, IfOk, IfSome};
 ghost use Rattle.simp_ops.specs.Bits.{mask_word};
-ghost use Rattle.simp_ops.specs.Words.{degeneracy_word};
+ghost use Rattle.simp_ops.specs.Words.{IsWord, compose_words, degeneracy_word};
 ghost use Rattle.spaces.specs.Spaces.{kz1};
 ghost use Rattle.cells.specs.Dim.{dim_of};
 ghost use Rattle.cells.specs.declared.cells.Cell.TheVariants.{Base, Up};
 ghost use Rattle.script_lang.specs.Meaning.{mapped};
-ghost use Rattle.script_lang.specs.Resolved.{IsFound, body_meaning, bare_simplex};
+ghost use Rattle.script_lang.specs.Resolved.{IsFound, IsJoined, IsPrefixed, body_meaning, bare_simplex};
 
 use crate::simplices::BodyText;
 use cells::{Cell, Simplex, dim};
 use kz1_group::ints_norm;
+use normal_forms::paired;
 use seqs::Box;
-use simp_ops::{Degens, degenerate};
+use simp_ops::{Degens, compose, degenerate};
 use std::alloc::{AllocError, Global};
 
 // A cell as a simplex, with no degeneracies.
@@ -65,4 +66,32 @@ pub(crate) fn raised(alloc: Global, x: Simplex) -> Result<Simplex, AllocError>
         degens: Degens { mask },
         cell: Cell::Up(Box::new(alloc, x.cell)?),
     })
+}
+
+// A word before what is found, if anything is.
+pub(crate) fn prefixed(degens: Degens, found: Option<Simplex>) -> Option<Simplex>
+    requires { IfSome found (λ x. IsWord 32 (compose_words (mask_word degens.mask) (mask_word x.degens.mask))) }
+    ensures { IsPrefixed degens found result }
+{
+    match found {
+        Some(x) => Some(Simplex {
+            degens: compose(degens, x.degens),
+            cell: x.cell,
+        }),
+        None => None,
+    }
+}
+
+// The pair of what is found for two parts, in normal form, if both are found.
+pub(crate) fn joined(
+    alloc: Global,
+    x: Option<Simplex>,
+    y: Option<Simplex>,
+) -> Result<Option<Simplex>, AllocError>
+    ensures { IfOk result (IsJoined x y) }
+{
+    match (x, y) {
+        (Some(x), Some(y)) => Ok(Some(paired(alloc, x, y)?)),
+        _ => Ok(None),
+    }
 }

@@ -8,6 +8,9 @@ mod faults;
 mod forms;
 mod laws;
 mod lines;
+mod named;
+#[cfg(test)]
+mod pair_tests;
 mod reader;
 #[cfg(test)]
 mod resolve_tests;

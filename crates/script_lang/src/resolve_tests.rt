@@ -15,7 +15,7 @@ use std::process::Abort;
 use std::test::Fail;
 use term_lang::{Name, Row, RowList, Table, TableFace, Term, copy_table, name_of, table_of};
 
-fn named(rt: &impl Abort, text: &str) -> Name {
+pub(crate) fn named(rt: &impl Abort, text: &str) -> Name {
     name_of(text.as_bytes()).expect(rt, "a name of 1 to 16 bytes")
 }
 
@@ -26,7 +26,7 @@ fn body(rt: &impl Abort, text: &str) -> BodyText {
     }
 }
 
-fn written(
+pub(crate) fn written(
     rt: &impl Abort,
     alloc: Global,
     word: &[u64],
@@ -68,7 +68,12 @@ fn circle(alloc: Global, v: Name, e: Name) -> Result<Table, AllocError>
 }
 
 // The mask and the cell, as `3 Base`, or the name of the fault.
-fn shown(alloc: Global, t: &Term, n: u32, text: &SimplexText) -> Result<String, AllocError>
+pub(crate) fn shown(
+    alloc: Global,
+    t: &Term,
+    n: u32,
+    text: &SimplexText,
+) -> Result<String, AllocError>
     requires allowed { IsAllowed (space_of t.now) }
     requires built { IsBuilt (space_of t.now) }
     requires degree { n ≤ 16 }
@@ -98,6 +103,13 @@ fn cell_name(alloc: Global, cell: &Cell) -> Result<String, AllocError> {
             let under = cell_name(alloc, part.get())?;
             format!(in alloc; "Up {under}")
         }
+        Cell::Pair(x, y) => {
+            let left = cell_name(alloc, &x.get().cell)?;
+            let right = cell_name(alloc, &y.get().cell)?;
+            let before_left = x.get().degens.mask;
+            let before_right = y.get().degens.mask;
+            format!(in alloc; "<{before_left} {left}, {before_right} {right}>")
+        }
         _ => format!(in alloc; "another cell"),
     }
 }
@@ -119,7 +131,11 @@ fn in_table(alloc: Global, table: &Table, n: u32, text: &SimplexText) -> Result<
     shown(alloc, &term, n, text)
 }
 
-fn listed(alloc: Global, word: &[u64], items: &[i64]) -> Result<SimplexText, AllocError> {
+pub(crate) fn listed(
+    alloc: Global,
+    word: &[u64],
+    items: &[i64],
+) -> Result<SimplexText, AllocError> {
     let mut degens = new_seq(alloc);
     for j in word {
         degens.push(*j)?;

@@ -1,24 +1,22 @@
 // The simplex of a space that a text means.
-ghost use Rattle.std.specs.Prelude.{◌≡◌, ◌≤◌, ◌++◌, ◌↔◌, length, codes, nat_eq, IsTrue, IsSome, IfSome, IfOk, IfErr};
-ghost use Rattle.std.specs.Cmp.Lexicographic.{pointwise};
-ghost use Rattle.std.specs.Fmt.{decimal};
+ghost use Rattle.std.specs.Prelude.{◌≡◌, ◌≤◌, ℤ, List, ◌↔◌, length, IsTrue, IsSome, IfSome, IfOk, IfErr};
 ghost use Rattle.simp_ops.specs.Bits.{mask_word};
 ghost use Rattle.spaces.specs.Allowed.{IsAllowed};
-ghost use Rattle.spaces.specs.Spaces.{table, sphere, suspension};
-ghost use Rattle.term_lang.specs.Quote.{row_cell};
+ghost use Rattle.spaces.specs.Spaces.{table, product, suspension, kz1, bundle};
 ghost use Rattle.term_lang.specs.Rows.{rows_of};
 ghost use Rattle.term_lang.specs.SpaceOf.{space_of};
-ghost use Rattle.script_lang.specs.Meaning.{is_prefix, mapped, meaning, named_row};
+ghost use Rattle.script_lang.specs.Meaning.{is_prefix, meaning};
 ghost use Rattle.normal_forms.specs.Built.{IsBuilt};
-ghost use Rattle.script_lang.specs.Resolved.{IsRead, IsFault, IsFound, body_cell, body_meaning};
+ghost use Rattle.script_lang.specs.Resolved.{IsRead, IsFault, IsFound, body_meaning};
 
-use crate::forms::{bare, listed, raised};
+use crate::forms::{bare, joined, listed, prefixed, raised};
+use crate::named::{sphere_cell, table_cell};
 use crate::simplices::{BodyText, SimplexText};
 use cells::{Cell, Simplex};
 use oracle_iface::{Kind, Size, integer_of, letters_of, past};
-use simp_ops::{Degens, compose};
+use simp_ops::Degens;
 use std::alloc::{AllocError, Global};
-use term_lang::{Name, Row, Table, Term};
+use term_lang::{Table, Term};
 use thiserror::Error;
 
 /// Why a text gives no simplex of a space.
@@ -39,7 +37,10 @@ pub enum ResolveFault {
 /// that is built. `NoSimplex` exactly where it means none: where its prefix is not strictly decreasing from
 /// an index below the degree, or its body means no simplex in the degree that is left. `Over` exactly where
 /// it means one whose normal form is past a limit on letters or integers, with the first such kind and the
-/// size (Kenzo documentation, 1999, on geometric simplices; May, Simplicial Objects, chapter I).
+/// size. `<x,y>` means a simplex of a product where x means one of the left part and y one of the right part,
+/// of a circle bundle where x means one of the base, a table, and y one of K(Z,1), each in the degree of the
+/// pair: its normal form has the degeneracies that are common to both before a pair without common ones
+/// (Kenzo documentation, 1999, on geometric simplices; May, Simplicial Objects, chapters I and IV).
 pub fn resolve(alloc: Global, t: &Term, n: u32, text: &SimplexText) -> Result<Simplex, ResolveFault>
     requires allowed { IsAllowed (space_of t.now) }
     requires built { IsBuilt (space_of t.now) }
@@ -82,13 +83,7 @@ fn simplex_of(
         return Ok(None);
     };
     let lower = n - indices.len() as u32;
-    match body_of(alloc, t, lower, &text.body)? {
-        Some(x) => Ok(Some(Simplex {
-            degens: compose(degens, x.degens),
-            cell: x.cell,
-        })),
-        None => Ok(None),
-    }
+    Ok(prefixed(degens, body_of(alloc, t, lower, &text.body)?))
 }
 
 // The simplex of degree n that a body means, if it means one.
@@ -102,8 +97,10 @@ fn body_of(alloc: Global, t: &Term, n: u32, body: &BodyText) -> Result<Option<Si
     match t {
         Term::Table(rows) => Ok(bare(table_cell(rows, n, body))),
         Term::Sphere(m) => Ok(bare(sphere_cell(alloc, *m, n, body)?)),
+        Term::Product(left, right) => multiplied(alloc, left.get(), right.get(), n, body),
         Term::Suspension(part) => suspended(alloc, part.get(), n, body),
         Term::KZ1 => listed(alloc, n, body),
+        Term::Bundle(rows, _) => bundled(alloc, rows, n, body),
         _ => unreachable!(),
     }
 }
@@ -143,12 +140,90 @@ fn suspended(
     }
 }
 
+// In a product `<x,y>` means the pair of what x means in the left part and y in the right one, both in the
+// degree of the pair.
+#[cycle(found)]
+fn multiplied(
+    alloc: Global,
+    left: &Term,
+    right: &Term,
+    n: u32,
+    body: &BodyText,
+) -> Result<Option<Simplex>, AllocError>
+    requires allowed { IsAllowed (product (space_of left.now) (space_of right.now)) }
+    requires built { IsBuilt (product (space_of left.now) (space_of right.now)) }
+    requires degree { n ≤ 16 }
+    ensures { IfOk result (λ x. IsFound (product (space_of left.now) (space_of right.now)) n (body_meaning body.now (product (space_of left.now) (space_of right.now)) n) x) }
+{
+    match body {
+        BodyText::Pair(x, y) => {
+            let x = simplex_of(alloc, left, n, x.get())?;
+            let y = simplex_of(alloc, right, n, y.get())?;
+            joined(alloc, x, y)
+        }
+        _ => Ok(None),
+    }
+}
+
+// In a circle bundle over a table, whatever its cocycle, `<x,y>` means the pair of what x means in the table
+// and y in K(Z,1), both in the degree of the pair.
+fn bundled(
+    alloc: Global,
+    rows: &Table,
+    n: u32,
+    body: &BodyText,
+) -> Result<Option<Simplex>, AllocError>
+    requires { n ≤ 16 }
+    ensures { IfOk result (λ x. (c : List ℤ) → IsAllowed (bundle (rows_of rows.now) c) → IsFound (bundle (rows_of rows.now) c) n (body_meaning body.now (bundle (rows_of rows.now) c) n) x) }
+{
+    match body {
+        BodyText::Pair(x, y) => {
+            let x = text_in_table(rows, n, x.get());
+            let y = text_in_integers(alloc, n, y.get())?;
+            joined(alloc, x, y)
+        }
+        _ => Ok(None),
+    }
+}
+
+// The simplex of degree n that a text means in a table, if it means one.
+fn text_in_table(t: &Table, n: u32, text: &SimplexText) -> Option<Simplex>
+    requires { n ≤ 16 }
+    ensures { IsFound (table (rows_of t.now)) n (meaning text.now (table (rows_of t.now)) n) result }
+{
+    let _rows = t.rows();
+    let indices = text.degens.as_slice();
+    let Some(degens) = prefix_of(n, indices) else {
+        return None;
+    };
+    let lower = n - indices.len() as u32;
+    prefixed(degens, bare(table_cell(t, lower, &text.body)))
+}
+
+// The simplex of degree n that a text means in K(Z,1), if it means one.
+fn text_in_integers(
+    alloc: Global,
+    n: u32,
+    text: &SimplexText,
+) -> Result<Option<Simplex>, AllocError>
+    requires { n ≤ 16 }
+    ensures { IfOk result (λ x. IsFound kz1 n (meaning text.now kz1 n) x) }
+{
+    let indices = text.degens.as_slice();
+    let Some(degens) = prefix_of(n, indices) else {
+        return Ok(None);
+    };
+    let lower = n - indices.len() as u32;
+    Ok(prefixed(degens, listed(alloc, lower, &text.body)?))
+}
+
 // The word of a prefix for the degree n, or None exactly where the indices do not decrease strictly or
 // one is not below n.
 fn prefix_of(n: u32, indices: &[u64]) -> Option<Degens>
     requires { n ≤ 16 }
     ensures some { IsSome result ↔ IsTrue (is_prefix n indices.now) }
     ensures word { IfSome result (λ d. mask_word d.mask ≡ indices.now) }
+    ensures short { IfSome result (λ _. length indices.now ≤ n) }
 {
     let mut mask = 0;
     let mut bound = u64::from(n);
@@ -160,65 +235,4 @@ fn prefix_of(n: u32, indices: &[u64]) -> Option<Degens>
         bound = *j;
     }
     Some(Degens { mask })
-}
-
-// In a table a body means the row of its name, and `*` the row of the name `*`.
-fn table_cell(t: &Table, n: u32, body: &BodyText) -> Option<Cell>
-    ensures { result ≡ body_cell body.now (table (rows_of t.now)) n }
-{
-    let rows = t.rows().as_slice();
-    match body {
-        BodyText::Star => named_cell(rows, b"*", n),
-        BodyText::Name(name) => named_cell(rows, name.as_bytes(), n),
-        _ => None,
-    }
-}
-
-// The cell of the first row of a name, if it has the dimension n.
-fn named_cell(rows: &[Row], name: &[u8], n: u32) -> Option<Cell>
-    requires { length rows.now ≤ 256 }
-    ensures { result ≡ mapped (row_cell n) (named_row (rows_of rows.now) name.now n) }
-{
-    for (r, row) in rows.iter().enumerate() {
-        if row.name.as_bytes() == name {
-            return if row.dim == n {
-                Some(Cell::Row(n, r as u32))
-            } else {
-                None
-            };
-        }
-    }
-    None
-}
-
-// In a sphere of dimension m a body means the base, or the cell by its name.
-fn sphere_cell(alloc: Global, m: u32, n: u32, body: &BodyText) -> Result<Option<Cell>, AllocError>
-    requires { 1 ≤ m }
-    ensures { IfOk result (λ cell. cell ≡ body_cell body.now (sphere m) n) }
-{
-    match body {
-        BodyText::Star => {
-            if n == 0 {
-                Ok(Some(Cell::Base))
-            } else {
-                Ok(None)
-            }
-        }
-        BodyText::Name(name) => {
-            if n == m && is_top(alloc, m, name)? {
-                Ok(Some(Cell::Top(n)))
-            } else {
-                Ok(None)
-            }
-        }
-        _ => Ok(None),
-    }
-}
-
-// Whether a name is `S` and the dimension of the sphere in decimals.
-fn is_top(alloc: Global, m: u32, name: &Name) -> Result<bool, AllocError>
-    ensures { IfOk result (λ yes. yes ≡ pointwise nat_eq name.now (codes "S" ++ decimal m)) }
-{
-    let top = format!(in alloc; "S{m}")?;
-    Ok(name.as_bytes() == top.as_bytes())
 }

@@ -1,5 +1,5 @@
 use Rattle.std.proofs.Common.{◌≡◌, length, subst, arith, refl, sym, true≢false}
-use Rattle.script_lang.proofs.ResolvePrefixes.{Reading, reading_more, reading_fails, reading_word, reading_all, prefix_of_word}
+use Rattle.script_lang.proofs.ResolvePrefixes.{Reading, reading_more, reading_fails, reading_word, reading_all, prefix_of_word, length-word}
 use Rattle.script_lang.proofs.resolving.prefix_of.Goals as goal
 
 pub loop-j-preserved : goal.loop-j-preserved
@@ -21,3 +21,9 @@ pub returns-clause-word : goal.returns-clause-word
 returns-clause-word c =
     let e : c.loop-j.j-index ≡ length c.args.indices.now = omega arith in
     reading_all c.args.n c.args.indices.now c.loop-j.mask c.loop-j.bound (omega arith) (subst (Reading c.args.n c.args.indices.now c.loop-j.mask c.loop-j.bound) e c.loop-j.invariant)
+
+pub returns-clause-short : goal.returns-clause-short
+returns-clause-short c =
+    let e : c.loop-j.j-index ≡ length c.args.indices.now = omega arith in
+    let r = subst (Reading c.args.n c.args.indices.now c.loop-j.mask c.loop-j.bound) e c.loop-j.invariant in
+    length-word c.args.n c.args.indices.now (reading_word c.args.n c.args.indices.now c.loop-j.mask c.loop-j.bound r)

@@ -5,7 +5,7 @@ use Rattle.term_lang.specs.Rows.{rows_of}
 use Rattle.script_lang.specs.Meaning.{mapped, named_row, star}
 use Rattle.script_lang.specs.Resolved.{body_meaning}
 use Rattle.script_lang.proofs.ResolveMeanings.{meaning-Star, meaning-Name, table_other}
-use Rattle.script_lang.proofs.resolving.table_cell.Goals as goal
+use Rattle.script_lang.proofs.named.table_cell.Goals as goal
 
 pub returns-in-Star : goal.returns-in-Star
 returns-in-Star c =

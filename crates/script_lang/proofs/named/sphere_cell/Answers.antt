@@ -1,7 +1,7 @@
 use Rattle.std.proofs.Common.{sym, ◌∙◌}
 use Rattle.script_lang.proofs.ResolveSpheres.{star_base, star_none, name_top, name_differs, name_elsewhere, other_none}
-use Rattle.script_lang.proofs.resolving.sphere_cell.Goals as goal
-use Rattle.script_lang.proofs.resolving.sphere_cell.Goals.{else-n-m-via-then-n-m+in_ok-is_top-in-Name+else-branch, else-n-m-via-else-n-m}
+use Rattle.script_lang.proofs.named.sphere_cell.Goals as goal
+use Rattle.script_lang.proofs.named.sphere_cell.Goals.{else-n-m-via-then-n-m+in_ok-is_top-in-Name+else-branch, else-n-m-via-else-n-m}
 
 pub returns-then-n-eq0 : goal.returns-then-n-eq0
 returns-then-n-eq0 c = sym (star_base c.args.m c.args.n c.args.body.now c.in-Star.is c.if-n-eq0.true)
