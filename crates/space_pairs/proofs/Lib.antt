@@ -1,2 +1,3 @@
+pub mod IntegerPairs
 pub mod OneFace
 pub mod TorusCells

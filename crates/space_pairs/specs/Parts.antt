@@ -1,7 +1,7 @@
--- The simplices of the code of a space as a left or a right part of the Eilenberg-Zilber maps, with degrees up to 32 (May, Simplicial
--- Objects in Algebraic Topology, chapter I, on the normal form).
+-- The simplices of the code of a space as a left or a right part of the Eilenberg-Zilber maps, with degrees up to 32 and a reach up to a
+-- bound (May, Simplicial Objects in Algebraic Topology, chapter I, on the normal form). Their faces and degeneracies are such simplices.
 --
---   in the circle the mask 1 before its vertex is a simplex of degree 1, which stands for s_0 of the vertex
+--   in the circle the mask 1 before its vertex is a simplex of degree 1, which stands for s_0 of the vertex and has the reach 0
 use Rattle.std.proofs.Common.{◌≡◌, ℕ, zero, suc, ◌+◌, ◌-◌, ◌*◌, ◌%◌, ◌^◌, ◌<◌, ◌≤◌, ◌==◌, nat_lt, Bool, true, false, cond, ◌⊎◌, inl, inr, sym, ◌∙◌, ap, subst, arith}
 use Rattle.std.specs.Prelude.{count_ones, length}
 use Rattle.std.proofs.Math.Nat.{mod-eq_of_lt}
@@ -32,10 +32,12 @@ use Rattle.ez_laws.specs.Sides.{IsLeft, IsRight}
 use Rattle.ez_laws.proofs.Sided.{space-left}
 use Rattle.ez_laws.proofs.Orderings.{ordered-right}
 use Rattle.ez_flow.specs.Parts.{IsForm, AreRead}
+use Rattle.space_pairs.specs.Reach.{reach}
+use Rattle.space_pairs.specs.ReachLaws.{reach_degeneracy, reach_face}
 
--- a simplex of degree n of the space, with n at most 32
-abbrev pub IsLow : Space → ℕ → Simplex → Type 0
-IsLow X n s = IsSimplex X n s × (n ≤ 32)
+-- a simplex of degree n of the space, with n at most 32 and a reach of at most m
+abbrev pub IsReached : Space → ℕ → ℕ → Simplex → Type 0
+IsReached X m n s = IsSimplex X n s × (n ≤ 32) × (reach X (form s X) ≤ m)
 
 -- ---- the mask of a plain simplex has its degeneracies as bits
 
@@ -86,7 +88,13 @@ module _ {K : Type 0} (A : Simplicial K) (y : K) where
 
 -- ---- a space that is built
 
-module _ (X : Space) (kept : IsAllowedBuilt X) where
+pub space_left : (X : Space) → IsAllowedBuilt X → (p : ℕ) → 0 < p → IsLeft p (linear (ordered X)) (set_of X).In
+space_left X kept p pos = space-left p pos X kept.0.0
+
+pub space_right : (X : Space) → IsAllowedBuilt X → IsRight (ordered X)
+space_right X kept = ordered-right X kept.0.0
+
+module _ (X : Space) (kept : IsAllowedBuilt X) (m : ℕ) where
   abbrev allowed : IsAllowed X
   allowed = kept.0
 
@@ -99,56 +107,53 @@ module _ (X : Space) (kept : IsAllowedBuilt X) where
   laws : IsSimplicial (set_of X)
   laws = space_set_laws X allowed.0
 
-  low_mask : (n : ℕ) (s : Simplex) → IsLow X n s → s.degens.mask < 2 ^ n
-  low_mask n s h = lt_is s.degens.mask (2 ^ n) (and_left (nat_lt s.degens.mask (2 ^ n)) (is_cell s.cell X (n - length (mask_word s.degens.mask))) h.0)
+  reached_mask : (n : ℕ) (s : Simplex) → IsReached X m n s → s.degens.mask < 2 ^ n
+  reached_mask n s h = lt_is s.degens.mask (2 ^ n) (and_left (nat_lt s.degens.mask (2 ^ n)) (is_cell s.cell X (n - length (mask_word s.degens.mask))) h.0)
 
   -- the bits are the degeneracies
-  low_places : (n j : ℕ) (s : Simplex) → IsLow X n s → j < n → has_degeneracy (set_of X) j (form s X) ≡ bit s.degens.mask j
-  low_places n j s h l =
+  reached_places : (n j : ℕ) (s : Simplex) → IsReached X m n s → j < n → has_degeneracy (set_of X) j (form s X) ≡ bit s.degens.mask j
+  reached_places n j s h l =
       let y : Plain X = form s X in
-      let m : ℕ = mask (set_of X) n y in
-      let low : m < 2 ^ 32 = below_pow m n 32 (mask-lt (set_of X) y n) h.1 in
-      let e : m % 2 ^ 32 ≡ s.degens.mask = ap (λ (t : Simplex). t.degens.mask) ((forms n h.1).quoted s h.0) in
+      let k : ℕ = mask (set_of X) n y in
+      let low : k < 2 ^ 32 = below_pow k n 32 (mask-lt (set_of X) y n) h.1 in
+      let e : k % 2 ^ 32 ≡ s.degens.mask = ap (λ (t : Simplex). t.degens.mask) ((forms n h.1).quoted s h.0) in
       sym (mask-bit (set_of X) y n j l) ∙ ap (λ k. bit k j) (sym (mod-eq_of_lt low) ∙ e)
     where
-      below_pow : (m n k : ℕ) → m < 2 ^ n → n ≤ k → m < 2 ^ k
-      below_pow m n k h l = let q = pow_mono n k l in omega (arith, h, q)
+      below_pow : (b n k : ℕ) → b < 2 ^ n → n ≤ k → b < 2 ^ k
+      below_pow b n k h l = let q = pow_mono n k l in omega (arith, h, q)
 
-  low_raised : (n j : ℕ) (s t : Simplex) → IsLow X n s → j ≤ n → suc n ≤ 32 → t.cell ≡ s.cell → ((k : ℕ) → bit t.degens.mask k ≡ inserted j (bit s.degens.mask) k)
-      → IsLow X (suc n) t × (form t X ≡ (set_of X).degeneracy j (form s X))
-  low_raised n j s t h l b e bits =
+  reached_raised : (n j : ℕ) (s t : Simplex) → IsReached X m n s → j ≤ n → suc n ≤ 32 → t.cell ≡ s.cell → ((k : ℕ) → bit t.degens.mask k ≡ inserted j (bit s.degens.mask) k)
+      → IsReached X m (suc n) t × (form t X ≡ (set_of X).degeneracy j (form s X))
+  reached_raised n j s t h l b e bits =
       let w = word-put s.degens.mask t.degens.mask j (omega (arith, l, b)) (room X n s h.0 (omega (arith, b))) bits in
       let r = made X allowed is_built n j s t h.0 (omega (arith, b)) l e w in
-      ((subst (λ k. IsSimplex X k t) (let q : n + 1 ≡ suc n = omega arith in q) r.simplex, b), r.plain_is)
+      let e : reach X (form t X) ≡ reach X (form s X) = ap (reach X) r.plain_is ∙ reach_degeneracy X j (form s X) in
+      ((subst (λ k. IsSimplex X k t) (let q : n + 1 ≡ suc n = omega arith in q) r.simplex, b, omega (arith, e, h.2)), r.plain_is)
 
-  pub space_forms : IsForm 32 (set_of X).In (set_of X).degeneracy (has_degeneracy (set_of X)) (IsLow X) (λ s. form s X)
+  pub space_forms : IsForm 32 (set_of X).In (set_of X).degeneracy (has_degeneracy (set_of X)) (IsReached X m) (λ s. form s X)
   space_forms = record {
     is_in = λ n s h. (forms n h.1).simplex s h.0;
-    mask = low_mask;
-    places = low_places;
-    raised = low_raised;
+    mask = reached_mask;
+    places = reached_places;
+    raised = reached_raised;
     one_form = λ n s t h i e. (forms n h.1).once s t h.0 i.0 e;
   }
 
-  pub space_read : AreRead 32 (linear (ordered X)).faces (IsLow X) (λ s. form s X) (quote X)
+  pub space_read : AreRead 32 (linear (ordered X)).faces (IsReached X m) (λ s. form s X) (quote X)
   space_read = record {
     own = λ n s h. (forms n h.1).quoted s h.0;
     closed = λ n i s h l j.
         let y : Plain X = (set_of X).face i (form s X) in
         let is : (set_of X).In n y = laws.face_in n i (form s X) ((forms (suc n) l).simplex s h.0) j in
-        let m : n ≤ 32 = omega (arith, l) in
-        (((((forms n m).onto y is, m), (forms n m).formed y is)), tt);
+        let low : n ≤ 32 = omega (arith, l) in
+        let e : reach X (form (quote X n y) X) ≡ reach X y = ap (reach X) ((forms n low).formed y is) in
+        let lower : reach X y ≤ reach X (form s X) = reach_face X allowed.0 n i (form s X) (omega (arith, l)) ((forms (suc n) l).simplex s h.0) j in
+        ((((forms n low).onto y is, low, omega (arith, e, lower, h.2)), (forms n low).formed y is), tt);
   }
 
-  pub low_degree : (n : ℕ) (s : Simplex) → IsLow X n s → degree_of s ≡ n
-  low_degree n s h = (forms n h.1).degree s h.0
+  pub reached_degree : (n : ℕ) (s : Simplex) → IsReached X m n s → degree_of s ≡ n
+  reached_degree n s h = (forms n h.1).degree s h.0
 
   -- the degree of a simplex
-  pub low_graded : (n : ℕ) (s : Simplex) → IsLow X n s → count_ones s.degens.mask + dim_of s.cell ≡ n
-  low_graded n s h = let e : capped (count_ones s.degens.mask + dim_of s.cell) ≡ n = (forms n h.1).degree s h.0 in omega (arith, e, h.1)
-
-  pub space_left : (p : ℕ) → 0 < p → IsLeft p (linear (ordered X)) (set_of X).In
-  space_left p pos = space-left p pos X allowed.0
-
-  pub space_right : IsRight (ordered X)
-  space_right = ordered-right X allowed.0
+  pub reached_graded : (n : ℕ) (s : Simplex) → IsReached X m n s → count_ones s.degens.mask + dim_of s.cell ≡ n
+  reached_graded n s h = let e : capped (count_ones s.degens.mask + dim_of s.cell) ≡ n = (forms n h.1).degree s h.0 in omega (arith, e, h.1)

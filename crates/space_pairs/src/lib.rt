@@ -6,6 +6,8 @@ mod pairs;
 pub use pairs::SpacePair;
 
 #[cfg(test)]
+mod integer_tests;
+#[cfg(test)]
 mod pair_tests;
 #[cfg(test)]
 mod tests;

@@ -19,6 +19,7 @@ fn torus_pairs(circle: &Term) -> Pairs<SpacePair<'_>>
     requires circle { circle.now ≡ Sphere 1 }
     ensures left { result.faces.left.term.now ≡ Sphere 1 }
     ensures right { result.faces.right.term.now ≡ Sphere 1 }
+    ensures most { result.faces.most ≡ 0 }
 {
     Pairs {
         faces: torus(circle),

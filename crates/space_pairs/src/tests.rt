@@ -3,7 +3,7 @@ ghost use Rattle.cells.specs.declared.cells.Cell.TheVariants.{Top};
 ghost use Rattle.term_lang.specs.declared.terms.Term.TheVariants.{Sphere};
 ghost use Rattle.term_lang.specs.SpaceOf.{space_of};
 ghost use Rattle.ez_flow.specs.Parts.{IsPairOf};
-ghost use Rattle.space_pairs.specs.Parts.{IsLow};
+ghost use Rattle.space_pairs.specs.Parts.{IsReached};
 
 use crate::SpacePair;
 use cells::{Cell, Simplex};
@@ -26,10 +26,12 @@ pub(crate) fn torus(circle: &Term) -> SpacePair<'_>
     requires circle { circle.now ≡ Sphere 1 }
     ensures left { result.left.term.now ≡ Sphere 1 }
     ensures right { result.right.term.now ≡ Sphere 1 }
+    ensures most { result.most ≡ 0 }
 {
     SpacePair {
         left: faces_of(circle),
         right: faces_of(circle),
+        most: 0,
     }
 }
 
@@ -47,7 +49,7 @@ pub(crate) fn edge(mask: u64) -> Simplex
 
 /// The pair of the cell of the circle with itself.
 pub(crate) fn square(alloc: Global) -> Result<Cell, AllocError>
-    ensures { IfOk result (IsPairOf (IsLow (space_of (Sphere 1))) (IsLow (space_of (Sphere 1))) 1) }
+    ensures { IfOk result (IsPairOf (IsReached (space_of (Sphere 1)) 0) (IsReached (space_of (Sphere 1)) 0) 1) }
 {
     pair_cell(alloc, edge(0), edge(0))
 }

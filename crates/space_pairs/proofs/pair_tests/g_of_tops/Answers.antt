@@ -5,6 +5,6 @@ use Rattle.space_pairs.proofs.pair_tests.g_of_tops.Goals as goal
 pub g-requires-clause-key : goal.g-requires-clause-key
 g-requires-clause-key c = (
   2,
-  tops-tensor c.torus_pairs-whole.result.faces.left.term.now c.torus_pairs-whole.result.faces.right.term.now c.tops.result c.torus_pairs-whole.ensures.left c.torus_pairs-whole.ensures.right c.tops.ensures.left c.tops.ensures.right,
+  tops-tensor c.torus_pairs-whole.result.faces.left.term.now c.torus_pairs-whole.result.faces.right.term.now c.torus_pairs-whole.result.faces.most c.tops.result c.torus_pairs-whole.ensures.left c.torus_pairs-whole.ensures.right c.tops.ensures.left c.tops.ensures.right,
   lit≤ tt,
 )

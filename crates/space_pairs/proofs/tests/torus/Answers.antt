@@ -1,9 +1,8 @@
-use Rattle.std.proofs.Common.{sym, ◌∙◌, subst, arith}
+use Rattle.std.proofs.Common.{sym, subst, arith}
 use Rattle.spaces.specs.Allowed.{IsAllowed}
 use Rattle.term_lang.specs.SpaceOf.{space_of}
 use Rattle.normal_forms.specs.Built.{IsBuilt}
 use Rattle.space_faces.proofs.SphereCells.{sphere-built, sphere-allowed}
-use Rattle.space_pairs.proofs.TorusCells.{circle-plain}
 use Rattle.space_pairs.proofs.tests.torus.Goals as goal
 
 pub faces_of-requires-clause-allowed : goal.faces_of-requires-clause-allowed
@@ -11,9 +10,3 @@ faces_of-requires-clause-allowed c = subst (λ t. IsAllowed (space_of t)) (sym c
 
 pub faces_of-requires-clause-built : goal.faces_of-requires-clause-built
 faces_of-requires-clause-built c = subst (λ t. IsBuilt (space_of t)) (sym c.requires.circle) (sphere-built 1)
-
-pub invariant_of-result : goal.invariant_of-result
-invariant_of-result c = record {
-  left_plain = circle-plain c.faces_of.result.term.now (c.faces_of.ensures ∙ c.requires.circle);
-  right_plain = circle-plain c.faces_of-2.result.term.now (c.faces_of-2.ensures ∙ c.requires.circle);
-}
