@@ -1,4 +1,4 @@
-// The rules of the spaces that are built.
+// The rules of the spaces that sessions answer for.
 ghost use Rattle.std.specs.Prelude.{◌≡◌, IfOk};
 ghost use Rattle.oracle_iface.specs.Stands.{IsOutcome};
 ghost use Rattle.oracle_iface.specs.Forcing.{MayForceNeeds, AsksNeeds};

@@ -55,4 +55,10 @@ pub mod ToldByKeys
 pub mod PartsSides
 pub mod PartsTold
 pub mod SuspensionFaults
-pub mod SuspensionsTold
+pub mod NoFaults
+pub mod ProductFaults
+pub mod PairSteps
+pub mod OnePair
+pub mod PairValues
+pub mod BaseTold
+pub mod BundleParts

@@ -19,7 +19,7 @@ use Rattle.values.proofs.BasesCells.{basis-degree, basis-rising}
 use Rattle.values.proofs.BasesRows.{simple-given_back}
 use Rattle.oracle_iface.specs.Keys.{quote_chain}
 use Rattle.oracle_iface.specs.KeyLaws.{HasCells, IsShown}
-use Rattle.normal_forms.specs.Built.{IsBuilt}
+use Rattle.normal_forms.specs.Built.{IsAnswered, answered_built}
 use Rattle.space_faces.specs.Boundaries.{graded}
 use Rattle.normal_forms.proofs.BuiltForms.{built_cells}
 use Rattle.space_faces.proofs.ShownChains.{chain_back}
@@ -47,7 +47,7 @@ use Rattle.session_core.proofs.ReplyParts.{each-told, degree-told, value-told}
 pub ready-told : (s : State) → IsWhole s → (e : Expr) (t : Term) → told_space s.names e ≡ told t → IsReady (space_of t)
 ready-told s whole e t here = subst Ready here (ready-space s.names whole e)
 
-pub built-listable : (p : ℕ) → IsField p → (a : Space) (n : ℕ) → IsAllowed a → IsBuilt a → IsListable p a n
+pub built-listable : (p : ℕ) → IsField p → (a : Space) (n : ℕ) → IsAllowed a → IsAnswered a → IsListable p a n
 built-listable p field a n is built = record {
   allowed = is;
   reduction = built_reduction p field a is built (suc n);
@@ -71,7 +71,7 @@ module _ (p : ℕ) (a : Space) (has : HasCells a) where
 
 -- ---- homology
 
-module _ (p : Prime) (t : Term) (is : IsAllowed (space_of t)) (built : IsBuilt (space_of t)) (n : ℕ) (low : n ≤ 16) where
+module _ (p : Prime) (t : Term) (is : IsAllowed (space_of t)) (built : IsAnswered (space_of t)) (n : ℕ) (low : n ≤ 16) where
   abbrev X : Space
   X = space_of t
 
@@ -82,7 +82,7 @@ module _ (p : Prime) (t : Term) (is : IsAllowed (space_of t)) (built : IsBuilt (
       → map (λ (z : Formal Cell). simplices_of X z.terms) (map (printed p t n) zs) ≡ map (plain_chain q X) zs
   printed-list [] h = refl
   printed-list (z ∷ zs) h =
-      λ i. quoted-simplices q X (built_cells X is built) z (shown-cells q X (built_cells X is built) n (omega arith) z h.0.chain) i ∷ printed-list zs h.1 i
+      λ i. quoted-simplices q X (built_cells X is (answered_built X built)) z (shown-cells q X (built_cells X is (answered_built X built)) n (omega arith) z h.0.chain) i ∷ printed-list zs h.1 i
 
   -- the listed cycles as they are printed
   pub printed-cycles : map (λ (z : Formal Cell). simplices_of X z.terms) (map (printed p t n) (value q (cycles X n))) ≡ map (plain_chain q X) (value q (cycles X n))

@@ -15,11 +15,12 @@ use Rattle.fp_field.specs.Chains.{Terms, extend}
 use Rattle.fp_field.specs.Normal.{normal}
 use Rattle.chain_core.specs.Formal.{Formal}
 use Rattle.spaces.specs.Simplicial.{is_degenerate}
-use Rattle.spaces.specs.Spaces.{Space, Plain, set_of}
+use Rattle.spaces.specs.Spaces.{Space, Plain, set_of, bundle}
+use Rattle.spaces.specs.Tables.{Table}
 use Rattle.spaces.specs.Orders.{ordered, by_degree}
 use Rattle.cells.specs.declared.cells.Cell.{Cell}
 use Rattle.term_lang.specs.declared.terms.Term.{Term}
-use Rattle.term_lang.specs.declared.terms.Term.TheVariants.{Sphere as SphereTerm, Suspension as SuspensionTerm, KZ1 as KZ1Term}
+use Rattle.term_lang.specs.declared.terms.Term.TheVariants.{Sphere as SphereTerm, Product as ProductTerm, Suspension as SuspensionTerm, KZ1 as KZ1Term}
 use Rattle.term_lang.specs.declared.faults.TermFault.{TermFault}
 use Rattle.term_lang.specs.declared.faults.TermFault.TheVariants as term_faults
 use Rattle.term_lang.specs.SpaceOf.{space_of}
@@ -39,8 +40,10 @@ use Rattle.oracle_iface.specs.Stands.{quote_kind}
 use Rattle.oracle_iface.specs.Terms.{term_of}
 use Rattle.oracle_iface.specs.CodeSizes.{terms_size}
 use Rattle.oracle_iface.specs.Limits.{kind_past}
+use Rattle.twist_maps.specs.Values.{first_open}
 use Rattle.script_lang.specs.declared.commands.Command.{Command}
 use Rattle.script_lang.specs.declared.commands.Command.TheVariants as commands
+use Rattle.script_lang.specs.declared.exprs.PairText.{PairText}
 use Rattle.script_lang.specs.declared.exprs.Expr.{Expr, fold-Expr}
 use Rattle.script_lang.specs.declared.exprs.Expr.TheOpen.{Expr-F}
 use Rattle.script_lang.specs.declared.simplices.TermText.{TermText}
@@ -51,6 +54,7 @@ use Rattle.reply_text.specs.declared.refusals.Refusal.{Refusal}
 use Rattle.reply_text.specs.declared.refusals.Refusal.TheVariants as refusals
 use Rattle.reply_text.specs.declared.replies.Reply.{Reply}
 use Rattle.reply_text.specs.declared.replies.Reply.TheVariants as replies
+use Rattle.session_core.specs.Bundles.{base_rows, values_on, pairs_fault}
 use Rattle.session_core.specs.Questions.{dimensions, expressed}
 
 -- ---- names
@@ -141,6 +145,26 @@ told_whole t = elim (own_fault (space_of t)) [ Some fault ↦ refused (term_refu
 
 abbrev pub told_suspension : Told Term → Told Term
 told_suspension part = part >> λ a. told_whole (SuspensionTerm a)
+
+-- a product of parts that are told: one of more than depth 8 has a fault
+abbrev pub told_product : Told Term → Told Term → Told Term
+told_product left right = left >> λ a. right >> λ b. told_whole (ProductTerm a b)
+
+-- the table of a base that is told
+abbrev pub told_base : Term → Told Table
+told_base a = elim (base_rows (space_of a)) [ Some t ↦ told t | None ↦ refused refusals.BaseNotTable ]
+
+-- the values that pairs give to the rows of a base, unless a pair is at fault
+abbrev pub told_values : Table → List PairText → Told (List ℤ)
+told_values t pairs = elim (pairs_fault t pairs) [ Some fault ↦ refused fault | None ↦ told (values_on pairs t) ]
+
+-- values that are closed; else the first row of dimension 3 on which they are not, with the sum there
+abbrev pub told_closed : Table → List ℤ → Told (List ℤ)
+told_closed t c = elim (first_open t c) [ Some found ↦ refused (refusals.NotClosed found.row found.sum) | None ↦ told c ]
+
+-- a bundle over a base that is told. Its depth is 2, so it is never too deep
+abbrev pub told_bundle : List PairText → Told Term → Told Term
+told_bundle pairs base = base >> λ a. told_base a >> λ t. told_values t pairs >> λ values. told_closed t values >> λ c. told (term_of (bundle t c))
 
 abbrev pub space_step : Names → Expr-F (Told Term) → Told Term
 space_step names (Expr-F.Name name) = named_space names name

@@ -1,6 +1,7 @@
 pub mod Replies
 pub mod Questions
 pub mod Answer
+pub mod Bundles
 pub mod Kept
 pub mod Lines
 pub mod Whole

@@ -5,12 +5,12 @@ use Rattle.std.specs.List.{AllByRecursion}
 use Rattle.spaces.specs.Allowed.{IsAllowed}
 use Rattle.spaces.specs.Spaces.{Space, table, sphere, product, suspension, kz1, bundle, loops, paths, kzm1, cyclic_bundle}
 use Rattle.term_lang.specs.SpaceOf.{space_of}
-use Rattle.normal_forms.specs.Built.{IsBuilt}
+use Rattle.normal_forms.specs.Built.{IsAnswered}
 use Rattle.session_core.specs.Answer.{Names, State}
 
--- an allowed space: a table, a sphere or K(Z,1), suspended any number of times
+-- an allowed space that sessions answer for: a table, a sphere or K(Z,1), suspended any number of times
 abbrev pub IsReady : Space → Type 0
-IsReady X = IsAllowed X × IsBuilt X
+IsReady X = IsAllowed X × IsAnswered X
 
 abbrev pub AreReady : Names → Type 0
 AreReady names = AllByRecursion (λ n. IsReady (space_of n.1)) names

@@ -10,12 +10,15 @@ mod answerer;
 mod asker;
 mod betti;
 mod boundaries;
+#[cfg(test)]
+mod bundle_tests;
 mod chains;
 mod counts;
 mod degrees;
 mod dimensions;
 mod divisions;
 mod express;
+mod fibrations;
 mod filling;
 mod homologies;
 mod images;
@@ -25,6 +28,7 @@ mod line_faults;
 mod lines;
 mod names;
 mod order;
+mod pairs;
 #[cfg(test)]
 mod part_tests;
 mod parts;

@@ -104,8 +104,8 @@ fn told_suspension(alloc: Global, part: &Arc<Term>) -> Result<Arc<Term>, Stop>
     }
 }
 
-// The refusal of a term with this fault.
-fn term_refusal(fault: TermFault) -> Refusal
+/// The refusal of a term with this fault.
+pub(crate) fn term_refusal(fault: TermFault) -> Refusal
     ensures { result ≡ term_refusal fault }
 {
     match fault {

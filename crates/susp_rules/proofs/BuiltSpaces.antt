@@ -11,11 +11,11 @@ use Rattle.homology_laws.proofs.TableLists.{table-reduction, sphere-reduction}
 use Rattle.homology_laws.proofs.IntegersLists.{circle-reduction}
 use Rattle.homology_laws.proofs.SuspendedLists.{simple-reduction}
 use Rattle.homology_rules.specs.Shown.{HasShownValues}
-use Rattle.normal_forms.specs.Built.{IsBuilt}
+use Rattle.normal_forms.specs.Built.{IsAnswered, answered_built}
 use Rattle.normal_forms.proofs.BuiltForms.{built_cells}
 use Rattle.susp_rules.proofs.ShownSuspensions.{simple-shown}
 
-pub built_simple : (a : Space) → IsBuilt a → IsSimple a
+pub built_simple : (a : Space) → IsAnswered a → IsSimple a
 built_simple (table t) built = tt
 built_simple (sphere m) built = tt
 built_simple (product a b) built = built
@@ -29,7 +29,7 @@ built_simple (cyclic_bundle t m c) built = built
 
 module _ (p : ℕ) (field : IsField p) where
   -- the maps of what is left when all suspensions are taken off
-  pub innermost_reduction : (a : Space) → Admits a → IsBuilt a → IsReduction p (maps_of p (innermost a))
+  pub innermost_reduction : (a : Space) → Admits a → IsAnswered a → IsReduction p (maps_of p (innermost a))
   innermost_reduction (table t) is built = table-reduction p field t is
   innermost_reduction (sphere m) is built = sphere-reduction p field m is.0
   innermost_reduction (product a b) is built = absurd built
@@ -41,8 +41,8 @@ module _ (p : ℕ) (field : IsField p) where
   innermost_reduction (kzm1 m) is built = absurd built
   innermost_reduction (cyclic_bundle t m c) is built = absurd built
 
-  pub built_reduction : (a : Space) → IsAllowed a → IsBuilt a → IsReduction p (maps_of p a)
+  pub built_reduction : (a : Space) → IsAllowed a → IsAnswered a → IsReduction p (maps_of p a)
   built_reduction a is built = simple-reduction p field a is (built_simple a built) (innermost_reduction a is.0 built)
 
-  pub shown_built : (a : Space) → IsAllowed a → IsBuilt a → HasShownValues p a
-  shown_built a is built = simple-shown p field a is (built_simple a built) (built_cells a is built) (innermost_reduction a is.0 built)
+  pub shown_built : (a : Space) → IsAllowed a → IsAnswered a → HasShownValues p a
+  shown_built a is built = simple-shown p field a is (built_simple a built) (built_cells a is (answered_built a built)) (innermost_reduction a is.0 built)

@@ -4,6 +4,7 @@ use Rattle.fp_field.specs.Field.{number}
 use Rattle.fp_field.specs.Chains.{EachKey}
 use Rattle.term_lang.specs.SpaceOf.{space_of}
 use Rattle.oracle_iface.specs.Keys.{quote_chain, formal}
+use Rattle.normal_forms.specs.Built.{IsBuilt, answered_built}
 use Rattle.script_lang.specs.declared.commands.Command.TheVariants as commands
 use Rattle.space_faces.specs.Boundaries.{IsLowCell, graded_chain, boundary_of as d_of}
 use Rattle.session_core.specs.Answer.{told_chain as chain_by, told_reply}
@@ -35,6 +36,10 @@ returns-in_err-chain-clause-stops c =
     (err_from_is_err_and c.from_residual-in_err-chain.result c.from_residual-in_err-chain.ensures.1)
     (chain_stops s c.args.e.now c.args.n c.args.text.now c.in_ok-term.term c.in_ok-degree.degree c.in_ok-term.ensures.told c.in_ok-degree.ensures.told c.in_err-chain.field-0.0
     (subst (λ t. Stops c.in_err-chain.field-0.0 (chain_by s.prime t c.in_ok-degree.degree c.args.text.now)) c.get.ensures c.in_err-chain.ensures.stops))
+
+pub boundary-requires-clause-built : goal.boundary-requires-clause-built
+boundary-requires-clause-built c =
+    subst (λ t. IsBuilt (space_of t)) (sym c.get-2.ensures) (answered_built (space_of c.in_ok-term.term) c.in_ok-term.ensures.ready.1)
 
 pub boundary-requires-clause-cells : goal.boundary-requires-clause-cells
 boundary-requires-clause-cells c =
