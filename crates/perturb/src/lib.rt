@@ -5,7 +5,7 @@
 mod delta;
 mod laws;
 mod perturbed;
-mod series;
+pub mod series;
 
 pub use delta::{MapDelta, Perturb};
 pub use laws::perturbed_meets;

@@ -118,11 +118,11 @@ integer_is n x most h =
 
 -- ---- lengths
 
-length-differences : (t : Table) (values : List ℤ) (n j k : ℕ) (b : RowSimplex) → length (differences integers t values n j k b) ≡ k
+pub length-differences : (t : Table) (values : List ℤ) (n j k : ℕ) (b : RowSimplex) → length (differences integers t values n j k b) ≡ k
 length-differences t values n j zero b = refl
 length-differences t values n j (suc k) b = ap suc (length-differences t values n (suc j) k b)
 
-length-times : (x y : List ℤ) (m : ℕ) → length x ≡ m → length y ≡ m → length (nerve_times integers x y) ≡ m
+pub length-times : (x y : List ℤ) (m : ℕ) → length x ≡ m → length y ≡ m → length (nerve_times integers x y) ≡ m
 length-times [] y m e f = e
 length-times (a ∷ x) [] m e f = absurd (let l : suc (length x) ≡ 0 = e ∙ sym f in omega (arith, l))
 length-times (a ∷ x) (b ∷ y) zero e f = absurd (let l : suc (length x) ≡ 0 = e in omega (arith, l))
