@@ -20,7 +20,7 @@ use Rattle.oracle_iface.specs.Keys.{key_of}
 use Rattle.oracle_iface.proofs.KeysBack.{basis-back}
 use Rattle.oracle_iface.proofs.Named.{term-back}
 use Rattle.twist_rules.specs.PairBases.{basis_key, basis_keys}
-use Rattle.twist_rules.specs.Reading.{keys_of}
+use Rattle.part_asks.specs.Reading.{keys_of}
 
 pub key-is : (p : Prime) (t : Term) (n : ℕ) → basis_key p t n ≡ key_of p (basis (space_of t) n)
 key-is p t n = ap (λ (u : Term). record { op = Basis; prime = p; place = Degree n; term = u }) (sym (term-back t))

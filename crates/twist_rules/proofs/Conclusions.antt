@@ -24,8 +24,8 @@ use Rattle.susp_rules.specs.Suspendable.{IsOutcomeBack}
 use Rattle.susp_rules.proofs.RuleLimits.{limited-value, outcome-within}
 use Rattle.twist_laws.specs.Assembled.{IsLoopless}
 use Rattle.twist_laws.proofs.LooplessValues.{loopless-outcome_back}
-use Rattle.twist_rules.specs.declared.found.Found.TheVariants.{Value as FoundValue, Over as FoundOver}
-use Rattle.twist_rules.specs.Reading.{value_of}
+use Rattle.part_asks.specs.declared.found.Found.TheVariants.{Value as FoundValue, Over as FoundOver}
+use Rattle.part_asks.specs.Reading.{value_of}
 use Rattle.twist_rules.specs.Concluded.{keys_needed, IsFoundFor, NeedsReadBack, IsUnrefused}
 
 pub loopless-back : (k : Key) → IsLoopless (space_of k.term) → IsOutcomeBack k

@@ -24,10 +24,10 @@ use Rattle.oracle_iface.specs.Terms.{term_of}
 use Rattle.oracle_iface.proofs.Named.{named-space}
 use Rattle.oracle_iface.proofs.ValidPlaces.{basis-degree}
 use Rattle.susp_rules.specs.Places.{size_at}
-use Rattle.twist_rules.specs.declared.found.Found.{Found}
+use Rattle.part_asks.specs.declared.found.Found.{Found}
 use Rattle.twist_rules.specs.PartSpaces.{IsFibred, base_of, fibre_of}
 use Rattle.twist_rules.specs.PairBases.{quote_pairs}
-use Rattle.twist_rules.specs.Reading.{keys_of, IsFound}
+use Rattle.part_asks.specs.Reading.{keys_of, IsFound}
 use Rattle.twist_rules.specs.Concluded.{keys_needed, IsFoundFor, NeedsReadBack}
 use Rattle.twist_rules.proofs.BasisKeys.{pairs-back}
 use Rattle.twist_rules.proofs.PartNames.{base-named, fibre-named}

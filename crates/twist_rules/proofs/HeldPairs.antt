@@ -25,7 +25,7 @@ use Rattle.homology_rules.specs.Degrees.{HasCells, cells_held}
 use Rattle.homology_rules.proofs.Answered.{outcome-of_cell, none-split}
 use Rattle.homology_rules.proofs.TypedKeys.{value-told}
 use Rattle.twist_rules.specs.PairBases.{basis_key, basis_keys, pairs_with, cell_pairs, pairs_held, quote_pairs}
-use Rattle.twist_rules.specs.Reading.{value_of}
+use Rattle.part_asks.specs.Reading.{value_of}
 use Rattle.twist_rules.proofs.BasisKeys.{key-is, value-more}
 
 -- pairs of quotes are quotes of pairs

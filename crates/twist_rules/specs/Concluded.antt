@@ -14,8 +14,8 @@ use Rattle.oracle_iface.specs.declared.bodies.Outcome.TheVariants.{Value, Over}
 use Rattle.oracle_iface.specs.KeyLaws.{IsReadBack}
 use Rattle.oracle_iface.specs.Keys.{question_of, key_of, needs_of, quote_body}
 use Rattle.homology_rules.specs.Asking.{first_refusal}
-use Rattle.twist_rules.specs.declared.found.Found.{Found}
-use Rattle.twist_rules.specs.Reading.{IsFound}
+use Rattle.part_asks.specs.declared.found.Found.{Found}
+use Rattle.part_asks.specs.Reading.{IsFound}
 
 -- the keys of the needs of a key, in the order of evaluation
 abbrev pub keys_needed : Key → List Key

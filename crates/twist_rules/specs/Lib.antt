@@ -1,9 +1,3 @@
-pub mod Bundles
-pub mod Reading
 pub mod PartSpaces
 pub mod PairBases
 pub mod Concluded
-pub mod OneKey
-pub mod Along
-pub mod Askers
-pub mod Fibred

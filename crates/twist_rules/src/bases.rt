@@ -5,14 +5,14 @@ ghost use Rattle.values.specs.Rules.{numbers, pairs_of_degree};
 ghost use Rattle.homology_rules.specs.Asking.{MayForceEach, AskedFirst, EachAnswered, up_to_refusal};
 ghost use Rattle.oracle_iface.specs.declared.bodies.Body.TheVariants.{Cells as CellsBody};
 ghost use Rattle.twist_rules.specs.PairBases.{basis_key, basis_keys, quote_pairs};
-ghost use Rattle.twist_rules.specs.Reading.{keys_of, IsFound};
+ghost use Rattle.part_asks.specs.Reading.{keys_of, IsFound};
 
-use crate::found::Found;
 use crate::part_terms::PartTerms;
 use crate::small_pairs::pairs_in;
 use fp_field::Prime;
 use homology_rules::{Answers, ask_all};
 use oracle_iface::{Body, Forcer, Key, Op, Place};
+use part_asks::Found;
 use seqs::Arc;
 use std::alloc::{AllocError, Global};
 use term_lang::Term;

@@ -8,8 +8,8 @@ ghost use Rattle.susp_rules.specs.Places.{size_at};
 ghost use Rattle.twist_laws.specs.Assembled.{IsLoopless};
 ghost use Rattle.twist_rules.specs.Concluded.{IsFoundFor, NeedsReadBack, IsUnrefused, keys_needed};
 
-use crate::found::Found;
 use oracle_iface::{Body, Key, Outcome, limited};
+use part_asks::Found;
 use std::alloc::{AllocError, Global};
 
 /// The outcome of a key about a space without loop and path spaces, from what the right side of its rule

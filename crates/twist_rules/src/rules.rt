@@ -12,10 +12,10 @@ ghost use Rattle.twist_rules.specs.Concluded.{keys_needed, IsFoundFor};
 ghost use Rattle.twist_rules.specs.PartSpaces.{IsFibred};
 
 use crate::bases::pairs_by_asking;
-use crate::found::Found;
 use crate::outcomes::concluded;
 use crate::part_terms::part_terms;
 use oracle_iface::{Body, Forcer, Key, Outcome, Place};
+use part_asks::Found;
 use std::alloc::{AllocError, Global};
 
 /// The degree at a place in a degree.

@@ -1,0 +1,11 @@
+pub mod Reached
+pub mod Readings
+pub mod OneKeys
+pub mod PartKeys
+pub mod AlongG
+pub mod QuotedTensors
+pub mod TensorSums
+pub mod HomotopySteps
+pub mod ReadTensors
+pub mod RightStages
+pub mod SeriesLeft

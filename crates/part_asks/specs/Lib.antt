@@ -1,0 +1,4 @@
+pub mod Reading
+pub mod OneKey
+pub mod Along
+pub mod Askers

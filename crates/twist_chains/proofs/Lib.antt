@@ -1,0 +1,13 @@
+pub mod Places
+pub mod FibreLists
+pub mod TwistTerms
+pub mod Transport
+pub mod CodeParts
+pub mod CodeOrders
+pub mod CodeKeys
+pub mod Stages
+pub mod FirstParts
+pub mod FirstTerms
+pub mod FirstValues
+pub mod FirstCalls
+pub mod TwistCases
