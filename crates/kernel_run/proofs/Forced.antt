@@ -3,7 +3,7 @@ use Rattle.std.proofs.Common.{◌≡◌, ℕ, List, [], ◌∷◌, Result, Ok, E
 use Rattle.std.specs.Prelude.{All, is_ok}
 use Rattle.std.proofs.lemmas.List.Elements.{All-nil, All-cons, All-contains, All-weaker}
 use Rattle.oracle_iface.specs.declared.keys.Key.{Key}
-use Rattle.normal_forms.specs.Built.{IsTreated}
+use Rattle.susp_rules.specs.Treated.{IsTreated}
 use Rattle.oracle_iface.specs.Forcing.{Calls, Asked}
 use Rattle.oracle_iface.specs.Memos.{Fronts}
 use Rattle.homology_rules.specs.Asking.{up_to_refusal, EachAnswered}

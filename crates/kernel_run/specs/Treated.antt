@@ -4,7 +4,7 @@
 -- Worked value: rules for valid keys about tables, spheres, K(Z,1) and their suspensions are such rules; rules for tables and spheres alone
 -- are not, since a session may ask for the small cells of K(Z,1).
 use Rattle.oracle_iface.specs.declared.keys.Key.{Key}
-use Rattle.normal_forms.specs.Built.{IsTreated}
+use Rattle.susp_rules.specs.Treated.{IsTreated}
 
 -- there is a rule for each valid key about a space that is built
 abbrev pub TreatsAll : (Key → Type 0) → Type 0

@@ -35,7 +35,7 @@ use Rattle.homology_laws.specs.Suspended.{innermost}
 use Rattle.homology_laws.proofs.IntegersLists.{circle-reduction}
 use Rattle.homology_laws.proofs.SuspendedLists.{simple-reduction}
 use Rattle.homology_laws.proofs.TableLists.{table-reduction, sphere-reduction}
-use Rattle.normal_forms.specs.Built.{IsAnswered, IsTreated, answered_built}
+use Rattle.susp_rules.specs.Treated.{IsAnswered, IsTreated, answered_built}
 use Rattle.normal_forms.proofs.BuiltForms.{built_cells}
 use Rattle.susp_rules.specs.Suspendable.{IsSuspendable, IsOutcomeBack}
 use Rattle.susp_rules.proofs.ShownSuspensions.{simple-shown}

@@ -15,7 +15,7 @@ use Rattle.oracle_iface.specs.Forcing.{Calls, MayForceNeeds}
 use Rattle.oracle_iface.specs.KeyLaws.{IsNamed}
 use Rattle.oracle_iface.proofs.KeysBack.{valid-back, valid-key}
 use Rattle.oracle_iface.proofs.Named.{named-kz1, named-suspension}
-use Rattle.normal_forms.specs.Built.{IsAnswered, IsTreated}
+use Rattle.susp_rules.specs.Treated.{IsAnswered, IsTreated}
 use Rattle.normal_forms.proofs.BuiltForms.{built_cells}
 use Rattle.rule_book.specs.Lower.{needs-treated}
 

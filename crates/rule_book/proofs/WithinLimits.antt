@@ -23,7 +23,7 @@ use Rattle.oracle_iface.specs.Limits.{limited_body}
 use Rattle.oracle_iface.specs.Stands.{quote_outcome, IsRead, IsOutcome}
 use Rattle.oracle_iface.proofs.CyclesNeeds.{key-space, key-op}
 use Rattle.oracle_iface.proofs.LimitsAgree.{limits-agree}
-use Rattle.normal_forms.specs.Built.{IsAnswered, IsTreated}
+use Rattle.susp_rules.specs.Treated.{IsAnswered, IsTreated}
 use Rattle.rule_book.specs.Lower.{asked_built}
 use Rattle.rule_book.specs.Needed.{built_simple}
 use Rattle.rule_book.specs.Places.{IsWithin}

@@ -16,7 +16,7 @@ use Rattle.oracle_iface.specs.Keys.{question_of, key_of, needs_of, IsValidKey}
 use Rattle.oracle_iface.specs.KeyLaws.{IsNamed, IsReadBack}
 use Rattle.oracle_iface.proofs.CyclesNeeds.{key-space, key-named}
 use Rattle.oracle_iface.proofs.KeysBack.{valid-back, valid-key}
-use Rattle.normal_forms.specs.Built.{IsAnswered, IsTreated, answered_built}
+use Rattle.susp_rules.specs.Treated.{IsAnswered, IsTreated, answered_built}
 use Rattle.normal_forms.proofs.BuiltForms.{built_cells}
 use Rattle.rule_book.specs.Needed.{built_simple, near_built, near_named, needed_space}
 

@@ -19,7 +19,7 @@ use Rattle.oracle_iface.specs.KeyLaws.{IsNamed, CyclesNeed, cells_in, cells_abov
 use Rattle.oracle_iface.specs.declared.keys.Op.TheVariants.{Basis, SmallD, F, G, H, Cycles}
 use Rattle.oracle_iface.proofs.CyclesNeeds.{cycles-need}
 use Rattle.oracle_iface.proofs.Named.{suspension-part}
-use Rattle.normal_forms.specs.Built.{IsAnswered}
+use Rattle.susp_rules.specs.Treated.{IsAnswered}
 use Rattle.susp_rules.proofs.Questions.{at_suspension}
 
 -- what holds for tables, spheres and K(Z,1), and for a suspension where it holds for the part, holds for the spaces that are built

@@ -8,7 +8,7 @@ ghost use Rattle.values.specs.BaseLaws.{HasNoParts};
 ghost use Rattle.values.specs.Ranks.{IsLower};
 ghost use Rattle.oracle_iface.specs.Keys.{question_of, key_of, needs_of};
 ghost use Rattle.oracle_iface.specs.declared.keys.Op.TheVariants.{Cycles};
-ghost use Rattle.normal_forms.specs.Built.{IsTreated};
+ghost use Rattle.susp_rules.specs.Treated.{IsTreated};
 ghost use Rattle.susp_rules.specs.Suspendable.{IsOnlyNeed};
 ghost use Rattle.rule_book.specs.Places.{key_below};
 

@@ -2,7 +2,7 @@
 ghost use Rattle.std.specs.Prelude.{◌≡◌, IfOk};
 ghost use Rattle.oracle_iface.specs.Stands.{IsRead, IsOutcome};
 ghost use Rattle.oracle_iface.specs.declared.keys.Op.TheVariants.{Cycles};
-ghost use Rattle.normal_forms.specs.Built.{IsTreated};
+ghost use Rattle.susp_rules.specs.Treated.{IsTreated};
 ghost use Rattle.rule_book.specs.Places.{IsWithin};
 ghost use Rattle.rule_book.specs.Refused.{StaysRefused};
 ghost use Rattle.rule_book.specs.RowSpaces.{IsRowKey};

@@ -3,7 +3,7 @@ ghost use Rattle.std.specs.Prelude.{◌≡◌, IfOk};
 ghost use Rattle.oracle_iface.specs.Stands.{IsOutcome};
 ghost use Rattle.oracle_iface.specs.Forcing.{MayForceNeeds, AsksNeeds};
 ghost use Rattle.oracle_iface.specs.declared.keys.Op.TheVariants.{Cycles as CyclesOp};
-ghost use Rattle.normal_forms.specs.Built.{IsTreated};
+ghost use Rattle.susp_rules.specs.Treated.{IsTreated};
 ghost use Rattle.rule_book.specs.Lower.{treated-valid, needs-lower, needs-back};
 
 use crate::outcomes::{direct_outcome, within_limits};

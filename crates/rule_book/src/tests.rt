@@ -2,7 +2,7 @@ ghost use Rattle.std.specs.Prelude.{◌≡◌, [], ◌∷◌, IfOk, pos};
 ghost use Rattle.cells.specs.declared.cells.Cell.TheVariants.{Ints as IntsCell, Up as UpCell};
 ghost use Rattle.term_lang.specs.declared.terms.Term.TheVariants.{Suspension as SuspensionTerm, KZ1};
 ghost use Rattle.oracle_iface.specs.declared.keys.Op.TheVariants.{Cycles as CyclesOp};
-ghost use Rattle.normal_forms.specs.Built.{IsTreated};
+ghost use Rattle.susp_rules.specs.Treated.{IsTreated};
 ghost use Rattle.rule_book.specs.RowSpaces.{IsRowKey};
 
 use crate::Rules;

@@ -20,7 +20,7 @@ use Rattle.oracle_iface.specs.Terms.{term_of}
 use Rattle.oracle_iface.specs.KeyLaws.{IsNamed, HasCells}
 use Rattle.oracle_iface.proofs.Named.{named-space, term-back}
 use Rattle.oracle_iface.proofs.KeysBack.{valid-back, valid-key}
-use Rattle.normal_forms.specs.Built.{IsAnswered, IsTreated, answered_built}
+use Rattle.susp_rules.specs.Treated.{IsAnswered, IsTreated, answered_built}
 use Rattle.normal_forms.proofs.BuiltForms.{built_cells}
 use Rattle.session_core.specs.Lines.{keys_asked}
 use Rattle.session_core.specs.Questions.{differentials, dimension_in, degrees_from, dimensions}

@@ -5,7 +5,7 @@ use Rattle.std.proofs.lemmas.List.Elements.{Contains-get_or, All-push}
 use Rattle.oracle_iface.specs.declared.keys.Key.{Key}
 use Rattle.oracle_iface.specs.declared.bodies.Over.{Over}
 use Rattle.oracle_iface.specs.Forcing.{Calls, Asked, asked-both}
-use Rattle.normal_forms.specs.Built.{IsTreated}
+use Rattle.susp_rules.specs.Treated.{IsTreated}
 use Rattle.homology_rules.specs.Asking.{outcome_of, refusal_in, first_refusal, up_to_refusal, MayForceEach, AskedFirst, EachAnswered}
 use Rattle.session_core.specs.Asked.{AnswersAll, AsksKeys, KeysBegin, nothing_asked, asked_now}
 

@@ -14,7 +14,7 @@ use Rattle.script_lang.specs.declared.exprs.Expr.{Expr}
 use Rattle.script_lang.specs.declared.simplices.ChainText.{ChainText}
 use Rattle.script_lang.specs.declared.commands.Command.TheVariants as commands
 use Rattle.space_faces.specs.Boundaries.{IsLowCell, graded_chain, boundary_of as d_of}
-use Rattle.normal_forms.specs.Built.{answered_built}
+use Rattle.susp_rules.specs.Treated.{answered_built}
 use Rattle.normal_forms.proofs.BuiltForms.{built_cells}
 use Rattle.space_faces.proofs.ShownChains.{chain_low, chain_back}
 use Rattle.reply_text.specs.declared.replies.Reply.TheVariants as replies

@@ -21,7 +21,7 @@ use Rattle.values.proofs.BasesLists.{Every, every_member, contains_of}
 use Rattle.values.proofs.BasesCells.{basis-degree}
 use Rattle.oracle_iface.specs.declared.keys.Key.{Key}
 use Rattle.oracle_iface.specs.KeyLaws.{IsShown}
-use Rattle.normal_forms.specs.Built.{IsTreated}
+use Rattle.susp_rules.specs.Treated.{IsTreated}
 use Rattle.session_core.specs.Expressing.{keys_of_parts}
 use Rattle.session_core.specs.Questions.{differentials, filling_of, expressed}
 use Rattle.session_core.specs.Whole.{IsReady}

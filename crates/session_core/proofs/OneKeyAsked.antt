@@ -15,7 +15,7 @@ use Rattle.oracle_iface.specs.Forcing.{Calls}
 use Rattle.oracle_iface.specs.Keys.{key_of}
 use Rattle.oracle_iface.proofs.Named.{term-back}
 use Rattle.homology_rules.specs.Asking.{outcome_of, refusal_in, up_to_refusal}
-use Rattle.normal_forms.specs.Built.{IsAnswered, IsTreated}
+use Rattle.susp_rules.specs.Treated.{IsAnswered, IsTreated}
 use Rattle.session_core.specs.Asked.{AnswersAll, AsksKeys, KeysBegin, nothing_asked, asked_now}
 use Rattle.session_core.specs.Telling.{cycles_key}
 use Rattle.session_core.specs.Whole.{IsReady}

@@ -23,7 +23,7 @@ use Rattle.oracle_iface.specs.declared.bodies.Kind.{Kind}
 use Rattle.oracle_iface.specs.Keys.{quote_chain}
 use Rattle.oracle_iface.specs.CodeSizes.{terms_size}
 use Rattle.oracle_iface.specs.Limits.{kind_past}
-use Rattle.normal_forms.specs.Built.{IsAnswered, answered_built}
+use Rattle.susp_rules.specs.Treated.{IsAnswered, answered_built}
 use Rattle.normal_forms.proofs.BuiltForms.{built_cells}
 use Rattle.homology_laws.proofs.CellChains.{plain-chain, plain-d, d-cells, no-boundary}
 use Rattle.script_lang.specs.declared.commands.Command.TheVariants as commands

@@ -16,7 +16,7 @@ use Rattle.values.specs.Values.{value}
 use Rattle.values.specs.Laws.{smalls, maps_of, plain_chain}
 use Rattle.values.specs.Cycles.{coordinates, is_small_cycle}
 use Rattle.values.proofs.Readings.{value_with-bind}
-use Rattle.normal_forms.specs.Built.{IsAnswered}
+use Rattle.susp_rules.specs.Treated.{IsAnswered}
 use Rattle.homology_laws.specs.Lists.{is_boundary, homology_vectors}
 use Rattle.homology_laws.specs.Kernel.{IsListable}
 use Rattle.homology_laws.proofs.Sums.{map-map}

@@ -19,7 +19,7 @@ use Rattle.values.proofs.BasesCells.{basis-degree, basis-rising}
 use Rattle.values.proofs.BasesRows.{simple-given_back}
 use Rattle.oracle_iface.specs.Keys.{quote_chain}
 use Rattle.oracle_iface.specs.KeyLaws.{HasCells, IsShown}
-use Rattle.normal_forms.specs.Built.{IsAnswered, answered_built}
+use Rattle.susp_rules.specs.Treated.{IsAnswered, answered_built}
 use Rattle.space_faces.specs.Boundaries.{graded}
 use Rattle.normal_forms.proofs.BuiltForms.{built_cells}
 use Rattle.space_faces.proofs.ShownChains.{chain_back}

@@ -29,7 +29,7 @@ use Rattle.values.specs.Asks.{cycles, ask, Cell as GradedCell}
 use Rattle.values.specs.Values.{value}
 use Rattle.values.specs.Laws.{cells, cell_d, plain_chain}
 use Rattle.oracle_iface.specs.Keys.{quote_chain}
-use Rattle.normal_forms.specs.Built.{answered_built}
+use Rattle.susp_rules.specs.Treated.{answered_built}
 use Rattle.normal_forms.proofs.BuiltForms.{built_cells}
 use Rattle.homology_laws.specs.Lists.{IsCycleOf}
 use Rattle.homology_laws.specs.Kernel.{IsFilledBy, listed_cycles}

@@ -20,7 +20,7 @@ use Rattle.term_lang.specs.SpaceOf.{space_of}
 use Rattle.values.specs.Asks.{Cell as GradedCell}
 use Rattle.values.specs.Laws.{cells, plain_chain}
 use Rattle.oracle_iface.specs.declared.bodies.Kind.{Kind}
-use Rattle.normal_forms.specs.Built.{IsAnswered}
+use Rattle.susp_rules.specs.Treated.{IsAnswered}
 use Rattle.homology_laws.proofs.Kernel.{degree-apart}
 use Rattle.homology_laws.proofs.CellChains.{weigh-plain, placed, up, keep-cells, plain-up}
 use Rattle.script_lang.specs.declared.simplices.TermText.{TermText}

@@ -29,7 +29,7 @@ use Rattle.script_lang.proofs.ResolveSpaces.{meant_in}
 use Rattle.space_faces.specs.Boundaries.{IsBounded}
 use Rattle.space_faces.specs.CodeBoundaries.{kept}
 use Rattle.space_faces.proofs.FaceSteps.{no_mask_form, kept_cell, kept_none}
-use Rattle.normal_forms.specs.Built.{answered_built}
+use Rattle.susp_rules.specs.Treated.{answered_built}
 use Rattle.normal_forms.proofs.BuiltForms.{built_forms, built_cells}
 use Rattle.session_core.specs.Whole.{IsReady}
 

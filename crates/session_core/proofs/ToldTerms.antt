@@ -28,7 +28,7 @@ use Rattle.script_lang.specs.Meaning.{meaning}
 use Rattle.script_lang.specs.Resolved.{IsRead}
 use Rattle.space_faces.specs.Boundaries.{IsBounded}
 use Rattle.space_faces.specs.CodeBoundaries.{kept}
-use Rattle.normal_forms.specs.Built.{answered_built}
+use Rattle.susp_rules.specs.Treated.{answered_built}
 use Rattle.normal_forms.proofs.BuiltForms.{built_cells}
 use Rattle.reply_text.specs.declared.refusals.Refusal.TheVariants as refusals
 use Rattle.session_core.specs.declared.stops.Stop.{Stop}

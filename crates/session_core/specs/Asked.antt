@@ -8,7 +8,7 @@
 use Rattle.std.specs.Prelude.{Bool, true, false, List, [], ◌∷◌, All, Contains, Result, Ok, Err}
 use Rattle.oracle_iface.specs.declared.keys.Key.{Key}
 use Rattle.oracle_iface.specs.Forcing.{Calls, Asked}
-use Rattle.normal_forms.specs.Built.{IsTreated}
+use Rattle.susp_rules.specs.Treated.{IsTreated}
 use Rattle.homology_rules.specs.Asking.{EachAnswered, up_to_refusal}
 use Rattle.session_core.specs.declared.stops.Stop.{Stop}
 use Rattle.session_core.specs.declared.stops.Stop.TheVariants as stops

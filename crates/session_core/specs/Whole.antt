@@ -5,7 +5,7 @@ use Rattle.std.specs.List.{AllByRecursion}
 use Rattle.spaces.specs.Allowed.{IsAllowed}
 use Rattle.spaces.specs.Spaces.{Space, table, sphere, product, suspension, kz1, bundle, loops, paths, kzm1, cyclic_bundle}
 use Rattle.term_lang.specs.SpaceOf.{space_of}
-use Rattle.normal_forms.specs.Built.{IsAnswered}
+use Rattle.susp_rules.specs.Treated.{IsAnswered}
 use Rattle.session_core.specs.Answer.{Names, State}
 
 -- an allowed space that sessions answer for: a table, a sphere or K(Z,1), suspended any number of times

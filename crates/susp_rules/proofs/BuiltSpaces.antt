@@ -11,7 +11,7 @@ use Rattle.homology_laws.proofs.TableLists.{table-reduction, sphere-reduction}
 use Rattle.homology_laws.proofs.IntegersLists.{circle-reduction}
 use Rattle.homology_laws.proofs.SuspendedLists.{simple-reduction}
 use Rattle.homology_rules.specs.Shown.{HasShownValues}
-use Rattle.normal_forms.specs.Built.{IsAnswered, answered_built}
+use Rattle.susp_rules.specs.Treated.{IsAnswered, answered_built}
 use Rattle.normal_forms.proofs.BuiltForms.{built_cells}
 use Rattle.susp_rules.proofs.ShownSuspensions.{simple-shown}
 

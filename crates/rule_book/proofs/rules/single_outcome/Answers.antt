@@ -1,6 +1,6 @@
 use Rattle.std.proofs.Common.{sym, ◌∙◌, subst}
 use Rattle.term_lang.specs.SpaceOf.{space_of}
-use Rattle.normal_forms.specs.Built.{IsAnswered}
+use Rattle.susp_rules.specs.Treated.{IsAnswered}
 use Rattle.rule_book.proofs.RuleAsks.{asks_nothing, built_term, integers-space, suspension-space, outcome-back, rows-table, rows-sphere}
 use Rattle.rule_book.proofs.rules.single_outcome.Goals as goal
 

@@ -3,7 +3,7 @@ use Rattle.fp_field.specs.declared.prime.Prime.TheVariants.{Five}
 use Rattle.term_lang.specs.declared.terms.Term.TheVariants.{Suspension, KZ1}
 use Rattle.oracle_iface.specs.declared.keys.Op.TheVariants.{F}
 use Rattle.oracle_iface.specs.declared.keys.Place.TheVariants.{Big as BigPlace}
-use Rattle.normal_forms.specs.Built.{IsTreated}
+use Rattle.susp_rules.specs.Treated.{IsTreated}
 use Rattle.rule_book.proofs.SuspendedKey.{up_three-treated}
 use Rattle.rule_book.proofs.tests.suspended_key.Goals as goal
 

@@ -4,7 +4,8 @@ use Rattle.fp_field.specs.Field.{number}
 use Rattle.fp_field.specs.Chains.{EachKey}
 use Rattle.term_lang.specs.SpaceOf.{space_of}
 use Rattle.oracle_iface.specs.Keys.{quote_chain, formal}
-use Rattle.normal_forms.specs.Built.{IsBuilt, answered_built}
+use Rattle.normal_forms.specs.Built.{IsBuilt}
+use Rattle.susp_rules.specs.Treated.{answered_built}
 use Rattle.space_faces.specs.Boundaries.{IsLowCell, graded_chain, boundary_of as d_of}
 use Rattle.session_core.specs.Answer.{told_chain as chain_by}
 use Rattle.session_core.specs.Posed.{told_posed as posed_by}
