@@ -9,4 +9,4 @@ mod rules;
 mod small_pairs;
 
 pub use laws::{assembled_values, part_needs};
-pub use rules::basis_rule;
+pub use rules::{basis_rule, rule};

@@ -4,7 +4,8 @@ ghost use Rattle.term_lang.specs.SpaceOf.{space_of};
 ghost use Rattle.oracle_iface.specs.Forcing.{MayForceNeeds, AsksNeeds};
 ghost use Rattle.oracle_iface.specs.Keys.{IsValidKey};
 ghost use Rattle.oracle_iface.specs.Stands.{IsOutcome};
-ghost use Rattle.oracle_iface.specs.declared.keys.Op.TheVariants.{Basis};
+ghost use Rattle.normal_forms.specs.Built.{IsBuilt};
+ghost use Rattle.oracle_iface.specs.declared.keys.Op.TheVariants.{Basis, Cycles};
 ghost use Rattle.oracle_iface.specs.declared.keys.Place.TheVariants.{Degree as DegreePlace};
 ghost use Rattle.homology_rules.specs.Asking.{MayForceEach, AskedFirst, EachAnswered, up_to_refusal};
 ghost use Rattle.twist_laws.specs.Assembled.{IsLoopless};
@@ -66,4 +67,20 @@ pub fn basis_rule<F: Forcer>(
 {
     let found = basis_found(alloc, key, forcer)?;
     concluded(alloc, key, found)
+}
+
+/// The outcome of a key about a product or a circle bundle, other than that of its cycles. It asks the forcer for what the maps of the
+/// definitions need of base and fibre, in the order of evaluation, up to the first refusal, which is that of the key: the Eilenberg-Zilber
+/// reduction, perturbed by the twist, and then the tensor product of the reductions of base and fibre, perturbed by what the twist has become
+/// (Shih 1962; Rubio and Sergeraert, Constructive Homological Algebra and Applications, chapter 3). The limits on what the key is at come
+/// before that, those on the value after it.
+pub fn rule<F: Forcer>(alloc: Global, key: &Key, forcer: &mut F) -> Result<Outcome, AllocError>
+    requires valid { IsValidKey key.now }
+    requires space { IsFibred (space_of key.now.term) × IsBuilt (space_of key.now.term) }
+    requires op { key.now.op ≡ Cycles → ⊥ }
+    requires forcer { MayForceNeeds F.may_force F.forces key.now forcer.old }
+    ensures outcome { IfOk result (λ o. IsOutcome key.now o) }
+    ensures asked { AsksNeeds F.forces key.now forcer.old forcer.new result }
+{
+    unreachable!()
 }

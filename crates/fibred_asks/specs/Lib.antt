@@ -1,0 +1,5 @@
+pub mod Reached
+pub mod Parts
+pub mod Seconds
+pub mod Totals
+pub mod Asked

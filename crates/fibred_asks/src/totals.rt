@@ -1,0 +1,114 @@
+// The four maps of a product or a circle bundle.
+ghost use Rattle.std.specs.Prelude.{◌≡◌, ◌≤◌, ◌+◌, IfOk};
+ghost use Rattle.fp_field.specs.Chains.{EachKey};
+ghost use Rattle.homology_rules.specs.Asking.{MayForceEach, AskedFirst, EachAnswered, up_to_refusal};
+ghost use Rattle.oracle_iface.specs.SmallForms.{small_form};
+ghost use Rattle.spaces.specs.SmallCells.{small_degree};
+ghost use Rattle.part_asks.specs.Along.{AsksValid};
+ghost use Rattle.part_asks.specs.OneKey.{IsOwnSmall};
+ghost use Rattle.part_asks.specs.Reading.{keys_of, IsFound};
+ghost use Rattle.fibred_asks.specs.Parts.{AreParts, formal_smalls};
+ghost use Rattle.fibred_asks.specs.Reached.{limited_reach};
+ghost use Rattle.fibred_asks.specs.Totals.{formal_pairs};
+ghost use Rattle.fibred_asks.specs.Asked.{prime_of, base_of, fibre_of, HasTwist, IsPairIn, total_f_asked, total_g_asked, total_h_asked, total_d_asked};
+
+use crate::maps::Maps;
+use cells::Cell;
+use chain_core::Chain;
+use oracle_iface::Forcer;
+use part_asks::Found;
+use std::alloc::{AllocError, Global};
+use term_lang::SmallCell;
+
+/// F on a chain of pairs of degree n: S1, Alexander-Whitney, S2, and F of base and fibre.
+pub fn total_f<F: Forcer>(
+    alloc: Global,
+    m: &Maps,
+    n: u32,
+    c: &Chain<Cell>,
+    forcer: &mut F,
+) -> Result<Found<Chain<SmallCell>>, AllocError>
+    requires parts { AreParts (prime_of m.now) (base_of m.now) (fibre_of m.now) }
+    requires values { HasTwist m.now }
+    requires degree { n ≤ 30 }
+    requires prime { c.now.prime ≡ (prime_of m.now) }
+    requires pairs { EachKey (IsPairIn m.now limited_reach n) c.now.terms }
+    requires valid { AsksValid (prime_of m.now) (total_f_asked m.now n c.now.terms) }
+    requires asks { MayForceEach F.may_force F.forces forcer.old (keys_of (prime_of m.now) (total_f_asked m.now n c.now.terms)) }
+    ensures asked { AskedFirst F.forces (keys_of (prime_of m.now) (total_f_asked m.now n c.now.terms)) forcer.old forcer.new }
+    ensures through { IfOk result (λ o. EachAnswered F.forces forcer.old (up_to_refusal (keys_of (prime_of m.now) (total_f_asked m.now n c.now.terms))) forcer.new) }
+    ensures found { IfOk result (λ o. IsFound (formal_smalls (prime_of m.now) (base_of m.now) (fibre_of m.now)) (prime_of m.now) (total_f_asked m.now n c.now.terms) o) }
+{
+    unreachable!()
+}
+
+/// G of a pair of small cells of base and fibre whose degrees have the sum n: G of both, P2, Eilenberg-Mac Lane, and P1.
+pub fn total_g<F: Forcer>(
+    alloc: Global,
+    m: &Maps,
+    n: u32,
+    y: &SmallCell,
+    z: &SmallCell,
+    forcer: &mut F,
+) -> Result<Found<Chain<Cell>>, AllocError>
+    requires parts { AreParts (prime_of m.now) (base_of m.now) (fibre_of m.now) }
+    requires values { HasTwist m.now }
+    requires degree { n ≤ 30 }
+    requires base_cell { IsOwnSmall (base_of m.now) y.now }
+    requires fibre_cell { IsOwnSmall (fibre_of m.now) z.now }
+    requires sum { n ≡ small_degree (base_of m.now) (small_form y.now (base_of m.now)) + small_degree (fibre_of m.now) (small_form z.now (fibre_of m.now)) }
+    requires valid { AsksValid (prime_of m.now) (total_g_asked m.now n y.now z.now) }
+    requires asks { MayForceEach F.may_force F.forces forcer.old (keys_of (prime_of m.now) (total_g_asked m.now n y.now z.now)) }
+    ensures asked { AskedFirst F.forces (keys_of (prime_of m.now) (total_g_asked m.now n y.now z.now)) forcer.old forcer.new }
+    ensures through { IfOk result (λ o. EachAnswered F.forces forcer.old (up_to_refusal (keys_of (prime_of m.now) (total_g_asked m.now n y.now z.now))) forcer.new) }
+    ensures found { IfOk result (λ o. IsFound (formal_pairs (prime_of m.now) (base_of m.now) (fibre_of m.now)) (prime_of m.now) (total_g_asked m.now n y.now z.now) o) }
+{
+    unreachable!()
+}
+
+/// H on a chain of pairs of degree n: P1 of the flow, and P1 of Eilenberg-Mac Lane of P2 of the homotopy of tensors of Alexander-Whitney of S1.
+pub fn total_h<F: Forcer>(
+    alloc: Global,
+    m: &Maps,
+    n: u32,
+    c: &Chain<Cell>,
+    forcer: &mut F,
+) -> Result<Found<Chain<Cell>>, AllocError>
+    requires parts { AreParts (prime_of m.now) (base_of m.now) (fibre_of m.now) }
+    requires values { HasTwist m.now }
+    requires degree { n ≤ 30 }
+    requires prime { c.now.prime ≡ (prime_of m.now) }
+    requires pairs { EachKey (IsPairIn m.now limited_reach n) c.now.terms }
+    requires valid { AsksValid (prime_of m.now) (total_h_asked m.now n c.now.terms) }
+    requires asks { MayForceEach F.may_force F.forces forcer.old (keys_of (prime_of m.now) (total_h_asked m.now n c.now.terms)) }
+    ensures asked { AskedFirst F.forces (keys_of (prime_of m.now) (total_h_asked m.now n c.now.terms)) forcer.old forcer.new }
+    ensures through { IfOk result (λ o. EachAnswered F.forces forcer.old (up_to_refusal (keys_of (prime_of m.now) (total_h_asked m.now n c.now.terms))) forcer.new) }
+    ensures found { IfOk result (λ o. IsFound (formal_pairs (prime_of m.now) (base_of m.now) (fibre_of m.now)) (prime_of m.now) (total_h_asked m.now n c.now.terms) o) }
+{
+    unreachable!()
+}
+
+/// The small differential of a pair of small cells of base and fibre whose degrees have the sum n: that of the tensor product, and F of base and
+/// fibre of the transferred difference of P2 of G of both.
+pub fn total_d<F: Forcer>(
+    alloc: Global,
+    m: &Maps,
+    n: u32,
+    y: &SmallCell,
+    z: &SmallCell,
+    forcer: &mut F,
+) -> Result<Found<Chain<SmallCell>>, AllocError>
+    requires parts { AreParts (prime_of m.now) (base_of m.now) (fibre_of m.now) }
+    requires values { HasTwist m.now }
+    requires degree { n ≤ 30 }
+    requires base_cell { IsOwnSmall (base_of m.now) y.now }
+    requires fibre_cell { IsOwnSmall (fibre_of m.now) z.now }
+    requires sum { n ≡ small_degree (base_of m.now) (small_form y.now (base_of m.now)) + small_degree (fibre_of m.now) (small_form z.now (fibre_of m.now)) }
+    requires valid { AsksValid (prime_of m.now) (total_d_asked m.now n y.now z.now) }
+    requires asks { MayForceEach F.may_force F.forces forcer.old (keys_of (prime_of m.now) (total_d_asked m.now n y.now z.now)) }
+    ensures asked { AskedFirst F.forces (keys_of (prime_of m.now) (total_d_asked m.now n y.now z.now)) forcer.old forcer.new }
+    ensures through { IfOk result (λ o. EachAnswered F.forces forcer.old (up_to_refusal (keys_of (prime_of m.now) (total_d_asked m.now n y.now z.now))) forcer.new) }
+    ensures found { IfOk result (λ o. IsFound (formal_smalls (prime_of m.now) (base_of m.now) (fibre_of m.now)) (prime_of m.now) (total_d_asked m.now n y.now z.now) o) }
+{
+    unreachable!()
+}
