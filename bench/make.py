@@ -12,6 +12,10 @@ usage: bench/make.py KIND NUMBER..
   homotopy N        a line that asks for the filling of |N| - N |1| in K(Z,1), which has N - 1 terms
   lists N           N cycles of lists of two integers in K(Z,1), with four new keys of the table of results each
   suspensions N     a table of one vertex and 48 more cells, suspended seven times, and N rounds of questions over three fields
+  square A B P      the square of the torus of A times B squares, each cut in two: its Betti numbers in degrees 0 to 4 over F_P
+  cube P            the cube of the projective plane: its Betti numbers in degrees 0 to 6, and its cycles, over F_P
+  torus_bundle A B N   circle bundles over the torus of A times B squares with the value N on one triangle, over three fields
+  sphere_bundle N   the circle bundle over the 2-sphere with the value N
   long_chains N     N lines of up to 65,536 bytes, each one chain with thousands of terms that repeat the triangles of a torus
   long_refusals N   N lines of up to 65,536 bytes that are refused at their end
 """
@@ -131,6 +135,37 @@ def suspensions(count):
             yield f"(express s7 8 (2 {top}e0))"
 
 
+def square(wide, high, prime):
+    yield table("torus", grid_torus_rows(wide, high))
+    yield f"(field {prime})"
+    yield "(betti (crts-prdc torus torus) 0 4)"
+
+
+def cube(prime):
+    yield table("rp2", [["v"], ["e", "v", "v"], ["t", "e", "0:v", "e"]])
+    yield "(setf square (crts-prdc rp2 rp2))"
+    yield "(setf cube (crts-prdc rp2 square))"
+    yield f"(field {prime})"
+    yield "(betti cube 0 6)"
+    for n in range(7):
+        yield f"(homology cube {n})"
+
+
+def torus_bundle(wide, high, value):
+    yield table("torus", grid_torus_rows(wide, high))
+    yield f"(setf b (bundle torus (s0_0 {value})))"
+    for p in (2, 3, 19):
+        yield f"(field {p})"
+        yield "(betti b 0 3)"
+        yield "(homology b 1)"
+        yield "(homology b 3)"
+        yield "(express b 1 (1 <0:v0_0,|1|>) (-1 <0:v1_1,|1|>))"
+
+
+def sphere_bundle(value):
+    yield f"(betti (bundle (sphere 2) (S2 {value})) 0 3)"
+
+
 def filled(start, parts, end):
     """The start, as many parts as fit in a line, and the end."""
     line, room = [start], LINE - len(start) - len(end)
@@ -166,7 +201,7 @@ def long_refusals(count):
         yield lines[k % len(lines)]
 
 
-KINDS = {kind.__name__: kind for kind in (names, renames, largest_table, grid_torus, graph, solid, homotopy, lists, suspensions, long_chains, long_refusals)}
+KINDS = {kind.__name__: kind for kind in (names, renames, largest_table, grid_torus, graph, solid, homotopy, lists, suspensions, square, cube, torus_bundle, sphere_bundle, long_chains, long_refusals)}
 
 
 def main():
