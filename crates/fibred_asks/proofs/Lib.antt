@@ -1,0 +1,4 @@
+pub mod AlongChains
+pub mod KeptCells
+pub mod TensorValues
+pub mod AlongTensors

@@ -1,0 +1,115 @@
+-- Cells of a space with their degree and a bounded reach, and the tensors of two of them as tensors of the code.
+use Rattle.std.proofs.Common.{◌≡◌, ℕ, suc, ◌+◌, ◌*◌, ◌<◌, ◌≤◌, Bool, true, false, not, ◌&&◌, [], ◌∷◌, ◌++◌, map, refl, sym, ◌∙◌, ap, subst, arith}
+use Rattle.fp_field.specs.Chains.{Terms, Each}
+use Rattle.fp_field.proofs.Weights.{Each-append}
+use Rattle.spaces.specs.Simplicial.{is_degenerate}
+use Rattle.spaces.specs.Spaces.{Space, Plain, set_of}
+use Rattle.spaces.specs.Orders.{ordered}
+use Rattle.spaces.specs.EilenbergZilber.{Tensor, linear, tensor_order}
+use Rattle.values.specs.Asks.{Cell as GradedCell}
+use Rattle.values.specs.Perturbed.{tensor_terms}
+use Rattle.cells.specs.declared.cells.Cell.{Cell}
+use Rattle.cells.specs.declared.cells.Simplex.{Simplex}
+use Rattle.cells.specs.Dim.{dim_of}
+use Rattle.ez_laws.proofs.Eaches.{each-so, each-and}
+use Rattle.ez_maps.specs.Tensors.{bare, tensor_cmp, tensor_form, tensor_for}
+use Rattle.tensor_red.specs.declared.tensors.Tensor.{Tensor as CodeTensor}
+use Rattle.term_lang.specs.Forms.{cell_form, form}
+use Rattle.term_lang.specs.Quote.{quote, quote_cell}
+use Rattle.term_lang.specs.NormalForms.{HasNormalForms, HasNormalCells}
+use Rattle.normal_forms.proofs.BuiltForms.{built_forms}
+use Rattle.space_faces.specs.Built.{IsAllowedBuilt}
+use Rattle.space_pairs.specs.Parts.{IsReached}
+use Rattle.space_pairs.specs.Reach.{reach}
+use Rattle.oracle_iface.specs.KeyLaws.{HasCells, IsShown}
+use Rattle.twist_chains.specs.Fibred.{IsTensorWithin}
+use Rattle.twist_chains.proofs.CodeKeys as C
+use Rattle.twist_chains.proofs.FirstParts.{parts-within, has-reached}
+use Rattle.part_asks.specs.OneKey.{IsOwnCell}
+use Rattle.part_asks.proofs.QuotedTensors.{quoted-cell}
+use Rattle.part_asks.proofs.ReadTensors.{bare-form}
+use Rattle.fibred_asks.specs.Reached.{IsReachedCell}
+
+-- ---- one space
+
+-- a cell of degree n that the code has, with a reach of at most m
+abbrev pub IsKeptCell : (X : Space) → ℕ → ℕ → GradedCell X → Type 0
+IsKeptCell X m n c = (c.0 ≡ n) × IsShown X c × (reach X c.1 ≤ m)
+
+module _ (X : Space) where
+  -- what has a bounded reach in the code
+  pub kept-reached : (k m n : ℕ) (c : GradedCell X) → HasCells X → k ≤ m → IsShown X c → IsReachedCell X k n c → IsKeptCell X m n c
+  kept-reached k m n c cells l shown r =
+      let e : form (bare (quote_cell X c.0 c.1)) X ≡ c.1 = bare-form (quote_cell X c.0 c.1) X ∙ (cells c.0 shown.0).formed c.1 shown.1.0 shown.1.1 in
+      let low : reach X c.1 ≤ k = subst (λ x. reach X x ≤ k) e r.1.2 in
+      (r.0, shown, omega (arith, low, l))
+
+  pub each-kept : (k m n : ℕ) (c : Terms (GradedCell X)) → HasCells X → k ≤ m → Each (IsShown X) c → Each (IsReachedCell X k n) c → Each (IsKeptCell X m n) c
+  each-kept k m n c cells l shown r =
+      each-so c (λ x h. kept-reached k m n x cells l h.0 h.1) (each-and (IsShown X) (IsReachedCell X k n) c shown r)
+
+  module _ (kept : IsAllowedBuilt X) (m : ℕ) (c : Cell) (h : IsReached X m (dim_of c) (bare c)) where
+    abbrev forms : HasNormalForms X (dim_of c)
+    forms = built_forms X kept.0 kept.1 (dim_of c) h.1
+
+    plain-cell : is_degenerate (set_of X) (dim_of c) (form (bare c) X) ≡ false
+    plain-cell = by (is_degenerate (set_of X) (dim_of c) (form (bare c) X)) refl
+      where
+        by : (b : Bool) → is_degenerate (set_of X) (dim_of c) (form (bare c) X) ≡ b → is_degenerate (set_of X) (dim_of c) (form (bare c) X) ≡ false
+        by false e = e
+        by true e = let k : 0 < 0 = (forms.degenerate (bare c) h.0).0 e in absurd (omega (arith, k))
+
+    -- a cell of the code is one of the space
+    pub kept-bare : IsKeptCell X m (dim_of c) (dim_of c, cell_form c X)
+    kept-bare = subst (λ x. IsKeptCell X m (dim_of c) (dim_of c, x)) (bare-form c X) (refl, (h.1, (forms.simplex (bare c) h.0, plain-cell)), h.2)
+
+    -- and is the one for it
+    pub own-bare : IsOwnCell X c
+    own-bare =
+        ap (quote_cell X (dim_of c)) (sym (bare-form c X)) ∙ sym (quoted-cell X (dim_of c) (form (bare c) X) plain-cell)
+        ∙ ap (λ (s : Simplex). s.cell) (forms.quoted (bare c) h.0)
+
+-- ---- two spaces
+
+module _ (p : ℕ) (pos : 0 < p) (a b : Space) (ka : IsAllowedBuilt a) (kb : IsAllowedBuilt b) where
+  -- a tensor of degree n with a reach of at most m, that the code has
+  abbrev pub IsKeptTensor : ℕ → ℕ → Tensor (Plain a) (Plain b) → Type 0
+  IsKeptTensor m n z =
+      C.IsTensorKey p pos (linear (ordered a)) (set_of a).In (ordered b) (IsReached a m) (λ s. form s a) (quote a) (IsReached b m) (λ s. form s b) (quote b)
+      (parts-within p pos a b ka kb m) n z
+
+  module _ (m : ℕ) where
+    pub kept-code : (n : ℕ) (z : Tensor (Plain a) (Plain b)) → IsKeptTensor m n z → IsTensorWithin a b m n (tensor_for (quote a) (quote b) z)
+    kept-code n z h =
+        C.tensor-is p pos (linear (ordered a)) (set_of a).In (ordered b) (IsReached a m) (λ s. form s a) (quote a) (IsReached b m) (λ s. form s b) (quote b)
+        (parts-within p pos a b ka kb m) n z h
+
+    pub kept-order : (n : ℕ) → (x y : Tensor (Plain a) (Plain b)) → IsKeptTensor m n x → IsKeptTensor m n y
+        → tensor_cmp (tensor_for (quote a) (quote b) x) (tensor_for (quote a) (quote b) y) ≡ tensor_order p (linear (ordered a)) (ordered b) x y
+    kept-order n =
+        C.tensors-keep p pos (linear (ordered a)) (set_of a).In (ordered b) (IsReached a m) (λ s. form s a) (quote a) (IsReached b m) (λ s. form s b) (quote b)
+        (parts-within p pos a b ka kb m) n
+
+    -- two cells
+    pub kept-tensor : (i j n : ℕ) (x : GradedCell a) (y : GradedCell b) → i + j ≡ n → IsKeptCell a m i x → IsKeptCell b m j y → IsKeptTensor m n (x.0, x.1, y.0, y.1)
+    kept-tensor i j n x y e hx hy = (
+      (
+        (λ k. hx.0 k + hy.0 k) ∙ e,
+        has-reached a ka m x.0 x.1 hx.1.0 hx.1.1.0 hx.2,
+        has-reached b kb m y.0 y.1 hy.1.0 hy.1.1.0 hy.2,
+      ),
+      λ k. not (hx.1.1.1 k) && not (hy.1.1.1 k),
+    )
+
+    kept-row : (i j n q : ℕ) (x : GradedCell a) (e : Terms (GradedCell b)) → i + j ≡ n → IsKeptCell a m i x → Each (IsKeptCell b m j) e
+        → Each (IsKeptTensor m n) (map (λ u. ((x.0, x.1, u.0.0, u.0.1), q * u.1)) e)
+    kept-row i j n q x [] s h r = tt
+    kept-row i j n q x (u ∷ e) s h r = (kept-tensor i j n x u.0 s h r.0, kept-row i j n q x e s h r.1)
+
+    -- two chains
+    pub kept-product : (i j n : ℕ) (c : Terms (GradedCell a)) (e : Terms (GradedCell b)) → i + j ≡ n → Each (IsKeptCell a m i) c → Each (IsKeptCell b m j) e
+        → Each (IsKeptTensor m n) (tensor_terms c e)
+    kept-product i j n [] e s h r = tt
+    kept-product i j n (t ∷ c) e s h r =
+        Each-append (IsKeptTensor m n) (map (λ u. ((t.0.0, t.0.1, u.0.0, u.0.1), t.1 * u.1)) e) (tensor_terms c e)
+        (kept-row i j n t.1 t.0 e s h.0 r) (kept-product i j n c e s h.1 r)
