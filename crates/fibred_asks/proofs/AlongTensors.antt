@@ -82,7 +82,7 @@ module _ (m : Maps) (parts : AreParts (prime_of m) (base_of m) (fibre_of m)) (mo
   abbrev pub read : CodeTensor Cell Cell → Tensor (Plain (base_of m)) (Plain (fibre_of m))
   read = tensor_form dim_of (λ s. form s (base_of m)) (λ s. form s (fibre_of m))
 
-  at-code : (x : CodeTensor Cell Cell) → t_tensor (prime_of m) (base_of m) (fibre_of m) x ≡ at (read x)
+  pub at-code : (x : CodeTensor Cell Cell) → t_tensor (prime_of m) (base_of m) (fibre_of m) x ≡ at (read x)
   at-code x = ap at (sym (read-same (prime_of m) (base_of m) (fibre_of m) x))
 
   module _ {F : Type 0} (calls : Calls F) (c : Terms (CodeTensor Cell Cell)) where
@@ -98,10 +98,10 @@ module _ (m : Maps) (parts : AreParts (prime_of m) (base_of m) (fibre_of m)) (mo
 
     module _ (ts : List (CodeTensor Cell Cell × Fp)) (i : ℕ) (x : CodeTensor Cell Cell × Fp) (l : i < length ts) (is : x ≡ get_or ts i x) (s u : F)
         (pushed : Terms (CodeTensor Cell Cell)) (st : TensorState (numbers (drop i ts)) s u pushed) where
-      split : read_tensors (base_of m) (fibre_of m) (numbers (drop i ts)) ≡ (read x.0, x.1.value) ∷ read_tensors (base_of m) (fibre_of m) (numbers (drop (i + 1) ts))
+      pub split : read_tensors (base_of m) (fibre_of m) (numbers (drop i ts)) ≡ (read x.0, x.1.value) ∷ read_tensors (base_of m) (fibre_of m) (numbers (drop (i + 1) ts))
       split = ap (read_tensors (base_of m) (fibre_of m)) (left-split ts i x l is)
 
-      abbrev this : Right (Terms (Tensor (Plain (base_of m)) (Plain (fibre_of m))))
+      abbrev pub this : Right (Terms (Tensor (Plain (base_of m)) (Plain (fibre_of m))))
       this = t_tensor (prime_of m) (base_of m) (fibre_of m) x.0
 
       -- what follows it

@@ -12,6 +12,7 @@ use Rattle.cells.specs.declared.cells.Cell.{Cell}
 use Rattle.cells.specs.declared.cells.Simplex.{Simplex}
 use Rattle.cells.specs.Dim.{dim_of}
 use Rattle.ez_laws.proofs.Eaches.{each-so, each-and}
+use Rattle.ez_flow.specs.Parts.{HasSimplex}
 use Rattle.ez_maps.specs.Tensors.{bare, tensor_cmp, tensor_form, tensor_for}
 use Rattle.tensor_red.specs.declared.tensors.Tensor.{Tensor as CodeTensor}
 use Rattle.term_lang.specs.Forms.{cell_form, form}
@@ -24,7 +25,7 @@ use Rattle.space_pairs.specs.Reach.{reach}
 use Rattle.oracle_iface.specs.KeyLaws.{HasCells, IsShown}
 use Rattle.twist_chains.specs.Fibred.{IsTensorWithin}
 use Rattle.twist_chains.proofs.CodeKeys as C
-use Rattle.twist_chains.proofs.FirstParts.{parts-within, has-reached}
+use Rattle.twist_chains.proofs.FirstParts.{parts-within}
 use Rattle.part_asks.specs.OneKey.{IsOwnCell}
 use Rattle.part_asks.proofs.QuotedTensors.{quoted-cell}
 use Rattle.part_asks.proofs.ReadTensors.{bare-form}
@@ -68,6 +69,14 @@ module _ (X : Space) where
     own-bare =
         ap (quote_cell X (dim_of c)) (sym (bare-form c X)) ∙ sym (quoted-cell X (dim_of c) (form (bare c) X) plain-cell)
         ∙ ap (λ (s : Simplex). s.cell) (forms.quoted (bare c) h.0)
+
+  -- a plain simplex with a bounded reach has its simplex of the code
+  has-reached : (kept : IsAllowedBuilt X) (m n : ℕ) (x : Plain X) → n ≤ 32 → (set_of X).In n x → reach X x ≤ m
+      → HasSimplex (IsReached X m) (λ s. form s X) (quote X) n x
+  has-reached kept m n x l is r =
+      let all = built_forms X kept.0 kept.1 n l in
+      let e : reach X (form (quote X n x) X) ≡ reach X x = ap (reach X) (all.formed x is) in
+      ((all.onto x is, l, omega (arith, e, r)), all.formed x is)
 
 -- ---- two spaces
 
