@@ -44,7 +44,7 @@ use Rattle.fibred_asks.proofs.AlongTensors.{left-split}
 use Rattle.fibred_asks.proofs.PairKinds.{IsShownPair, pairs-order, pairs-shown}
 use Rattle.fibred_asks.proofs.PairSums.{weigh-pairs}
 
-module _ (m : Maps) (parts : AreParts (prime_of m) (base_of m) (fibre_of m)) where
+module _ (m : Maps) where
   abbrev pub Pairs : Type 0
   Pairs = Terms (Small (base_of m) × Small (fibre_of m))
 
@@ -127,12 +127,12 @@ module _ (m : Maps) (parts : AreParts (prime_of m) (base_of m) (fibre_of m)) whe
         right-next = stage-next calls (prime_of m) (f_asked m c) first after_left s u left-next v none each
 
         -- both were found, and their pairs were pushed
-        pub smalls-more : (w : F) → first_refusal (keys_of (prime_of m) second) ≡ None → EachAnswered calls v (up_to_refusal (keys_of (prime_of m) second)) w
+        pub smalls-more : (parts : AreParts (prime_of m) (base_of m) (fibre_of m)) (w : F) → first_refusal (keys_of (prime_of m) second) ≡ None → EachAnswered calls v (up_to_refusal (keys_of (prime_of m) second)) w
             → (left right : Formal SmallCell) → left ≡ formal (prime_of m) (quote_small_chain (base_of m) left_found)
             → right ≡ formal (prime_of m) (quote_small_chain (fibre_of m) right_found) → (more : Terms SmallCell)
             → ((g : SmallCell → ℕ) → SameMod (number left.prime) (weigh g more) (weigh g pushed + x.1.value * weigh (λ y. weigh (λ z. g (Pair y z)) right.terms) left.terms))
             → SmallState (numbers (drop (i + 1) ts)) s w more
-        smalls-more w right_none right_each left right left_is right_is more weights =
+        smalls-more parts w right_none right_each left right left_is right_is more weights =
             along-more calls (prime_of m) by at IsKept key (f_asked m c) (both x.0) (read x.0) x.1.value (read_tensors (base_of m) (fibre_of m) (numbers (drop (i + 1) ts)))
             (read_tensors (base_of m) (fibre_of m) (numbers (drop i ts))) s u pushed split (both-is x.0) st w (small_terms left_found right_found)
             (stage-next calls (prime_of m) (f_asked m c) second after_right s v right-next w right_none right_each) shown more in-code

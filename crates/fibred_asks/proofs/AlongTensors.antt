@@ -64,9 +64,9 @@ module _ (p : Prime) (a : ℕ) (image : Formal (CodeTensor Cell Cell)) (c : Term
       ∙ same-plus (number p) (weigh w pushed) (weigh w pushed) _ _ refl
       (same-times (number p) a (weigh w (normal tensor_cmp (number p) c)) (weigh w c) (weigh-normal tensor_cmp (number p) one_tensor w c))
 
-module _ (m : Maps) (parts : AreParts (prime_of m) (base_of m) (fibre_of m)) (most n : ℕ) where
+module _ (m : Maps) (most n : ℕ) where
   abbrev pub IsKept : Tensor (Plain (base_of m)) (Plain (fibre_of m)) → Type 0
-  IsKept z = IsKeptTensor (number (prime_of m)) (number_pos (prime_of m)) (base_of m) (fibre_of m) parts.base_built parts.fibre_built most (suc n) z
+  IsKept z = IsKeptTensor (base_of m) (fibre_of m) most (suc n) z
 
   abbrev pub at : Tensor (Plain (base_of m)) (Plain (fibre_of m)) → Right (Terms (Tensor (Plain (base_of m)) (Plain (fibre_of m))))
   at z =
@@ -116,12 +116,12 @@ module _ (m : Maps) (parts : AreParts (prime_of m) (base_of m) (fibre_of m)) (mo
           (read_tensors (base_of m) (fibre_of m) (numbers (drop i ts))) s u pushed split (at-code x.0) st
 
       -- it was found and pushed
-      pub tensor-more : limited_reach ≤ most → IsTensorWithin (base_of m) (fibre_of m) most n x.0 → (v : F) → first_refusal (keys_of (prime_of m) this) ≡ None
+      pub tensor-more : (parts : AreParts (prime_of m) (base_of m) (fibre_of m)) → limited_reach ≤ most → IsTensorWithin (base_of m) (fibre_of m) most n x.0 → (v : F) → first_refusal (keys_of (prime_of m) this) ≡ None
           → EachAnswered calls u (up_to_refusal (keys_of (prime_of m) this)) v → (image : Formal (CodeTensor Cell Cell))
           → image ≡ normal_tensors (prime_of m) (base_of m) (fibre_of m) (value_of (prime_of m) this) → (more : Terms (CodeTensor Cell Cell))
           → ((w : CodeTensor Cell Cell → ℕ) → SameMod (number image.prime) (weigh w more) (weigh w pushed + x.1.value * weigh w image.terms))
           → TensorState (numbers (drop (i + 1) ts)) s v more
-      tensor-more wide kind v none each image found more weights =
+      tensor-more parts wide kind v none each image found more weights =
           along-more calls (prime_of m) by at IsKept key (h_asked m c) this (read x.0) x.1.value (read_tensors (base_of m) (fibre_of m) (numbers (drop (i + 1) ts)))
           (read_tensors (base_of m) (fibre_of m) (numbers (drop i ts))) s u pushed split (at-code x.0) st v (value_of (prime_of m) this)
           (stage-next calls (prime_of m) (h_asked m c) this then_left s u tensor-next v none each)
@@ -139,7 +139,7 @@ module _ (m : Maps) (parts : AreParts (prime_of m) (base_of m) (fibre_of m)) (mo
       pub tensors-through : EachAnswered calls s (up_to_refusal (keys_of (prime_of m) (h_asked m c))) u
       tensors-through = along-through calls (prime_of m) by at IsKept key (h_asked m c) (read_tensors (base_of m) (fibre_of m) left) s u pushed none-left st
 
-      module _ (chain : Formal (CodeTensor Cell Cell)) (prime : chain.prime ≡ prime_of m) (terms : chain.terms ≡ normal tensor_cmp (number (prime_of m)) pushed) where
+      module _ (parts : AreParts (prime_of m) (base_of m) (fibre_of m)) (chain : Formal (CodeTensor Cell Cell)) (prime : chain.prime ≡ prime_of m) (terms : chain.terms ≡ normal tensor_cmp (number (prime_of m)) pushed) where
         pub tensors-found : chain ≡ formal_tensors (prime_of m) (base_of m) (fibre_of m) (value_of (prime_of m) (h_asked m c))
         tensors-found = λ k. record { prime = prime k; terms = all k }
           where
@@ -148,11 +148,11 @@ module _ (m : Maps) (parts : AreParts (prime_of m) (base_of m) (fibre_of m)) (mo
                 terms
                 ∙ along-found calls (prime_of m) by at IsKept key (h_asked m c) (read_tensors (base_of m) (fibre_of m) left) s u pushed none-left st tensor_cmp one_tensor
                 tensor_total
-                (kept-order (number (prime_of m)) (number_pos (prime_of m)) (base_of m) (fibre_of m) parts.base_built parts.fibre_built most (suc n))
+                (kept-order (base_of m) (fibre_of m) (number (prime_of m)) (number_pos (prime_of m)) parts.base_built parts.fibre_built most (suc n))
 
         pub tensors-kinds : Each (IsTensorWithin (base_of m) (fibre_of m) most (suc n)) chain.terms
         tensors-kinds =
             subst (λ (d : Formal (CodeTensor Cell Cell)). Each (IsTensorWithin (base_of m) (fibre_of m) most (suc n)) d.terms) (sym tensors-found)
             (along-code calls (prime_of m) by at IsKept key (h_asked m c) (read_tensors (base_of m) (fibre_of m) left) s u pushed none-left st
             (IsTensorWithin (base_of m) (fibre_of m) most (suc n))
-            (kept-code (number (prime_of m)) (number_pos (prime_of m)) (base_of m) (fibre_of m) parts.base_built parts.fibre_built most (suc n)))
+            (kept-code (base_of m) (fibre_of m) (number (prime_of m)) (number_pos (prime_of m)) parts.base_built parts.fibre_built most (suc n)))

@@ -80,45 +80,48 @@ module _ (X : Space) where
 
 -- ---- two spaces
 
-module _ (p : ℕ) (pos : 0 < p) (a b : Space) (ka : IsAllowedBuilt a) (kb : IsAllowedBuilt b) where
-  -- a tensor of degree n with a reach of at most m, that the code has
+module _ (a b : Space) where
+  -- a tensor of degree n of two cells that the code has, with a reach of at most m each
   abbrev pub IsKeptTensor : ℕ → ℕ → Tensor (Plain a) (Plain b) → Type 0
-  IsKeptTensor m n z =
-      C.IsTensorKey p pos (linear (ordered a)) (set_of a).In (ordered b) (IsReached a m) (λ s. form s a) (quote a) (IsReached b m) (λ s. form s b) (quote b)
-      (parts-within p pos a b ka kb m) n z
+  IsKeptTensor m n z = (z.0 + z.2 ≡ n) × IsKeptCell a m z.0 (z.0, z.1) × IsKeptCell b m z.2 (z.2, z.3)
 
-  module _ (m : ℕ) where
-    pub kept-code : (n : ℕ) (z : Tensor (Plain a) (Plain b)) → IsKeptTensor m n z → IsTensorWithin a b m n (tensor_for (quote a) (quote b) z)
-    kept-code n z h =
-        C.tensor-is p pos (linear (ordered a)) (set_of a).In (ordered b) (IsReached a m) (λ s. form s a) (quote a) (IsReached b m) (λ s. form s b) (quote b)
-        (parts-within p pos a b ka kb m) n z h
+  module _ (p : ℕ) (pos : 0 < p) (ka : IsAllowedBuilt a) (kb : IsAllowedBuilt b) (m n : ℕ) where
+    abbrev IsKey : Tensor (Plain a) (Plain b) → Type 0
+    IsKey z =
+        C.IsTensorKey p pos (linear (ordered a)) (set_of a).In (ordered b) (IsReached a m) (λ s. form s a) (quote a) (IsReached b m) (λ s. form s b) (quote b)
+        (parts-within p pos a b ka kb m) n z
 
-    pub kept-order : (n : ℕ) → (x y : Tensor (Plain a) (Plain b)) → IsKeptTensor m n x → IsKeptTensor m n y
-        → tensor_cmp (tensor_for (quote a) (quote b) x) (tensor_for (quote a) (quote b) y) ≡ tensor_order p (linear (ordered a)) (ordered b) x y
-    kept-order n =
-        C.tensors-keep p pos (linear (ordered a)) (set_of a).In (ordered b) (IsReached a m) (λ s. form s a) (quote a) (IsReached b m) (λ s. form s b) (quote b)
-        (parts-within p pos a b ka kb m) n
-
-    -- two cells
-    pub kept-tensor : (i j n : ℕ) (x : GradedCell a) (y : GradedCell b) → i + j ≡ n → IsKeptCell a m i x → IsKeptCell b m j y → IsKeptTensor m n (x.0, x.1, y.0, y.1)
-    kept-tensor i j n x y e hx hy = (
-      (
-        (λ k. hx.0 k + hy.0 k) ∙ e,
-        has-reached a ka m x.0 x.1 hx.1.0 hx.1.1.0 hx.2,
-        has-reached b kb m y.0 y.1 hy.1.0 hy.1.1.0 hy.2,
-      ),
-      λ k. not (hx.1.1.1 k) && not (hy.1.1.1 k),
+    kept-key : (z : Tensor (Plain a) (Plain b)) → IsKeptTensor m n z → IsKey z
+    kept-key z h = (
+      (h.0, has-reached a ka m z.0 z.1 h.1.1.0 h.1.1.1.0 h.1.2, has-reached b kb m z.2 z.3 h.2.1.0 h.2.1.1.0 h.2.2),
+      λ k. not (h.1.1.1.1 k) && not (h.2.1.1.1 k),
     )
 
-    kept-row : (i j n q : ℕ) (x : GradedCell a) (e : Terms (GradedCell b)) → i + j ≡ n → IsKeptCell a m i x → Each (IsKeptCell b m j) e
+    -- in the code
+    pub kept-code : (z : Tensor (Plain a) (Plain b)) → IsKeptTensor m n z → IsTensorWithin a b m n (tensor_for (quote a) (quote b) z)
+    kept-code z h =
+        C.tensor-is p pos (linear (ordered a)) (set_of a).In (ordered b) (IsReached a m) (λ s. form s a) (quote a) (IsReached b m) (λ s. form s b) (quote b)
+        (parts-within p pos a b ka kb m) n z (kept-key z h)
+
+    pub kept-order : (x y : Tensor (Plain a) (Plain b)) → IsKeptTensor m n x → IsKeptTensor m n y
+        → tensor_cmp (tensor_for (quote a) (quote b) x) (tensor_for (quote a) (quote b) y) ≡ tensor_order p (linear (ordered a)) (ordered b) x y
+    kept-order x y h k =
+        C.tensors-keep p pos (linear (ordered a)) (set_of a).In (ordered b) (IsReached a m) (λ s. form s a) (quote a) (IsReached b m) (λ s. form s b) (quote b)
+        (parts-within p pos a b ka kb m) n x y (kept-key x h) (kept-key y k)
+
+  module _ (m i j n : ℕ) (sum : i + j ≡ n) where
+    -- two cells
+    kept-tensor : (x : GradedCell a) (y : GradedCell b) → IsKeptCell a m i x → IsKeptCell b m j y → IsKeptTensor m n (x.0, x.1, y.0, y.1)
+    kept-tensor x y hx hy = ((λ k. hx.0 k + hy.0 k) ∙ sum, (refl, hx.1, hx.2), (refl, hy.1, hy.2))
+
+    kept-row : (q : ℕ) (x : GradedCell a) (e : Terms (GradedCell b)) → IsKeptCell a m i x → Each (IsKeptCell b m j) e
         → Each (IsKeptTensor m n) (map (λ u. ((x.0, x.1, u.0.0, u.0.1), q * u.1)) e)
-    kept-row i j n q x [] s h r = tt
-    kept-row i j n q x (u ∷ e) s h r = (kept-tensor i j n x u.0 s h r.0, kept-row i j n q x e s h r.1)
+    kept-row q x [] h r = tt
+    kept-row q x (u ∷ e) h r = (kept-tensor x u.0 h r.0, kept-row q x e h r.1)
 
     -- two chains
-    pub kept-product : (i j n : ℕ) (c : Terms (GradedCell a)) (e : Terms (GradedCell b)) → i + j ≡ n → Each (IsKeptCell a m i) c → Each (IsKeptCell b m j) e
+    pub kept-product : (c : Terms (GradedCell a)) (e : Terms (GradedCell b)) → Each (IsKeptCell a m i) c → Each (IsKeptCell b m j) e
         → Each (IsKeptTensor m n) (tensor_terms c e)
-    kept-product i j n [] e s h r = tt
-    kept-product i j n (t ∷ c) e s h r =
-        Each-append (IsKeptTensor m n) (map (λ u. ((t.0.0, t.0.1, u.0.0, u.0.1), t.1 * u.1)) e) (tensor_terms c e)
-        (kept-row i j n t.1 t.0 e s h.0 r) (kept-product i j n c e s h.1 r)
+    kept-product [] e h r = tt
+    kept-product (t ∷ c) e h r =
+        Each-append (IsKeptTensor m n) (map (λ u. ((t.0.0, t.0.1, u.0.0, u.0.1), t.1 * u.1)) e) (tensor_terms c e) (kept-row t.1 t.0 e h.0 r) (kept-product c e h.1 r)

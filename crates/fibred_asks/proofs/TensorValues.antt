@@ -6,7 +6,6 @@ use Rattle.fp_field.specs.Chains.{Terms, Each, scale, extend}
 use Rattle.fp_field.specs.Normal.{normal}
 use Rattle.fp_field.specs.Reduction.{one}
 use Rattle.fp_field.proofs.FlowLaws.{Each-normal}
-use Rattle.fp_field.proofs.Primes.{number_pos}
 use Rattle.fp_field.proofs.Weights.{Each-append, Each-scale}
 use Rattle.cells.specs.declared.cells.Cell.{Cell}
 use Rattle.cells.specs.Dim.{dim_of}
@@ -130,16 +129,12 @@ module _ (p : Prime) (a b : Space) (parts : AreParts p a b) (most n : ℕ) (wide
       (parts.base_reached.of_f i left (valid-f p a b x valid))
       (each-and (λ y. IsValid (number p) (g a y)) (λ y. IsUnrefusedAsk p (g a y)) img v u)))
 
-  pub t-kept : Each (IsKeptTensor (number p) (number_pos p) a b parts.base_built parts.fibre_built most (suc n)) (value_of p (t_tensor p a b x))
+  pub t-kept : Each (IsKeptTensor a b most (suc n)) (value_of p (t_tensor p a b x))
   t-kept =
-      let e : suc i + j ≡ suc n = omega (arith, is.2) in
-      let f : i + suc j ≡ suc n = omega (arith, is.2) in
-      subst (Each (IsKeptTensor (number p) (number_pos p) a b parts.base_built parts.fibre_built most (suc n))) (sym (value-is p a b x))
-      (Each-append (IsKeptTensor (number p) (number_pos p) a b parts.base_built parts.fibre_built most (suc n))
-      (tensor_terms (value (number p) (h_of a i left)) (one (j, right)))
-      (scale (sign (number p) i) (tensor_terms back (value (number p) (h_of b j right))))
-      (kept-product (number p) (number_pos p) a b parts.base_built parts.fibre_built most (suc i) j (suc n) (value (number p) (h_of a i left)) (one (j, right)) e own-kept
-      (kept-bare b parts.fibre_built most x.right is.1, tt))
-      (Each-scale (IsKeptTensor (number p) (number_pos p) a b parts.base_built parts.fibre_built most (suc n)) (sign (number p) i)
-      (tensor_terms back (value (number p) (h_of b j right)))
-      (kept-product (number p) (number_pos p) a b parts.base_built parts.fibre_built most i (suc j) (suc n) back (value (number p) (h_of b j right)) f back-kept other-kept)))
+      let own = kept-product a b most (suc i) j (suc n) (omega (arith, is.2)) (value (number p) (h_of a i left)) (one (j, right)) own-kept
+      (kept-bare b parts.fibre_built most x.right is.1, tt) in
+      let other = kept-product a b most i (suc j) (suc n) (omega (arith, is.2)) back (value (number p) (h_of b j right)) back-kept other-kept in
+      subst (Each (IsKeptTensor a b most (suc n))) (sym (value-is p a b x))
+      (Each-append (IsKeptTensor a b most (suc n)) (tensor_terms (value (number p) (h_of a i left)) (one (j, right)))
+      (scale (sign (number p) i) (tensor_terms back (value (number p) (h_of b j right)))) own
+      (Each-scale (IsKeptTensor a b most (suc n)) (sign (number p) i) (tensor_terms back (value (number p) (h_of b j right))) other))
