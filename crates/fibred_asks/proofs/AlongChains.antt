@@ -1,9 +1,12 @@
 -- A map that asks, along a chain of the code: what is left of it after some terms, and what the pushed terms weigh.
-use Rattle.std.proofs.Common.{◌≡◌, ℕ, ◌+◌, ◌*◌, ◌%◌, [], ◌∷◌, ◌++◌, map, None, refl, sym, ◌∙◌, ap, subst, append_assoc}
+use Rattle.std.proofs.Common.{◌≡◌, ℕ, suc, ◌+◌, ◌*◌, ◌%◌, ◌<◌, List, [], ◌∷◌, ◌++◌, drop, length, get_or, None, refl, sym, ◌∙◌, ap, subst, append_assoc, arith}
+use Rattle.std.proofs.Math.Seq.{drop-cons}
 use Rattle.std.proofs.lemmas.List.{append-nil}
 use Rattle.std.specs.Cmp.{IsTotalOrder}
 use Rattle.std.specs.declared.cmp.Ordering.{Ordering}
 use Rattle.std.specs.declared.cmp.Ordering.TheVariants.{Equal}
+use Rattle.chain_core.specs.Formal.{numbers}
+use Rattle.fp_field.specs.declared.element.Fp.{Fp}
 use Rattle.fp_field.specs.declared.prime.Prime.{Prime}
 use Rattle.fp_field.specs.Field.{number, SameMod}
 use Rattle.fp_field.specs.Chains.{Terms, Each, weigh, scale}
@@ -24,7 +27,18 @@ use Rattle.part_asks.specs.Along.{AsksValid}
 use Rattle.part_asks.specs.Reading.{keys_of, value_of}
 use Rattle.part_asks.proofs.RightStages.{Stage, bind-assoc, stage-start, stage-none, stage-through}
 
--- ---- what is left
+-- ---- the next of the terms that are left
+
+module _ {X : Type 0} (ts : List (X × Fp)) (i : ℕ) (x : X × Fp) (l : i < length ts) (is : x ≡ get_or ts i x) where
+  pub left-split : numbers (drop i ts) ≡ (x.0, x.1.value) ∷ numbers (drop (i + 1) ts)
+  left-split =
+      ap numbers (drop-cons ts i x l ∙ ap (λ y. y ∷ drop (suc i) ts) (sym is))
+      ∙ ap (λ k. (x.0, x.1.value) ∷ numbers (drop k ts)) (let q : suc i ≡ i + 1 = omega arith in q)
+
+  pub left-each : (P : X → Type 0) → Each P (numbers (drop i ts)) → P x.0 × Each P (numbers (drop (i + 1) ts))
+  left-each P h = subst (Each P) left-split h
+
+-- ---- what is left of the right side
 
 module _ {K J : Type 0} (cmp : J → J → Ordering) (p : ℕ) (t : K → Right (Terms J)) where
   -- the sum along a chain, where the terms of `done` are there

@@ -13,7 +13,7 @@ use Rattle.cells.specs.Dim.{dim_of}
 use Rattle.cells.specs.Laws.{small_total}
 use Rattle.cells.specs.Small.{small_cmp}
 use Rattle.cells.proofs.OneSmall.{one_small}
-use Rattle.spaces.specs.Spaces.{Space, Plain}
+use Rattle.spaces.specs.Spaces.{Plain}
 use Rattle.spaces.specs.Orders.{ordered}
 use Rattle.spaces.specs.SmallCells.{Small, small_degree}
 use Rattle.spaces.specs.EilenbergZilber.{Tensor, linear}
@@ -39,8 +39,7 @@ use Rattle.part_asks.proofs.RightStages.{Stage, valid-next, stage-next}
 use Rattle.fibred_asks.specs.declared.maps.Maps.{Maps}
 use Rattle.fibred_asks.specs.Asked.{prime_of, base_of, fibre_of, values_of, f_asked}
 use Rattle.fibred_asks.specs.Parts.{AreParts, small_pair_for, formal_smalls}
-use Rattle.fibred_asks.proofs.AlongChains.{AlongState, along-begun, next-term, after_it, along-more, along-none, along-through, along-found}
-use Rattle.fibred_asks.proofs.AlongTensors.{left-split}
+use Rattle.fibred_asks.proofs.AlongChains.{left-split, AlongState, along-begun, next-term, after_it, along-more, along-none, along-through, along-found}
 use Rattle.fibred_asks.proofs.PairKinds.{IsShownPair, pairs-order, pairs-shown}
 use Rattle.fibred_asks.proofs.PairSums.{weigh-pairs}
 

@@ -1,6 +1,5 @@
 -- The homotopy of tensors along a chain of the code: the tensors that are left, and those that were found.
-use Rattle.std.proofs.Common.{◌≡◌, ℕ, suc, ◌+◌, ◌*◌, ◌%◌, ◌<◌, ◌≤◌, List, [], ◌∷◌, map, drop, length, get_or, All, None, refl, sym, ◌∙◌, ap, subst, arith}
-use Rattle.std.proofs.Math.Seq.{drop-cons}
+use Rattle.std.proofs.Common.{◌≡◌, ℕ, suc, ◌+◌, ◌*◌, ◌<◌, ◌≤◌, List, [], ◌∷◌, drop, length, get_or, None, refl, sym, ◌∙◌, ap, subst}
 use Rattle.fp_field.specs.declared.prime.Prime.{Prime}
 use Rattle.fp_field.specs.declared.element.Fp.{Fp}
 use Rattle.fp_field.specs.Field.{number, SameMod}
@@ -38,20 +37,9 @@ use Rattle.fibred_asks.specs.declared.maps.Maps.{Maps}
 use Rattle.fibred_asks.specs.Asked.{prime_of, base_of, fibre_of, values_of, h_asked}
 use Rattle.fibred_asks.specs.Parts.{AreParts}
 use Rattle.fibred_asks.specs.Reached.{limited_reach}
-use Rattle.fibred_asks.proofs.AlongChains.{AlongState, along-begun, next-term, after_it, along-more, along-none, along-through, along-found, along-code}
+use Rattle.fibred_asks.proofs.AlongChains.{left-split, AlongState, along-begun, next-term, after_it, along-more, along-none, along-through, along-found, along-code}
 use Rattle.fibred_asks.proofs.KeptCells.{IsKeptTensor, kept-code, kept-order}
 use Rattle.fibred_asks.proofs.TensorValues.{t-kept}
-
--- ---- the next of the terms that are left
-
-module _ {X : Type 0} (ts : List (X × Fp)) (i : ℕ) (x : X × Fp) (l : i < length ts) (is : x ≡ get_or ts i x) where
-  pub left-split : numbers (drop i ts) ≡ (x.0, x.1.value) ∷ numbers (drop (i + 1) ts)
-  left-split =
-      ap numbers (drop-cons ts i x l ∙ ap (λ y. y ∷ drop (suc i) ts) (sym is))
-      ∙ ap (λ k. (x.0, x.1.value) ∷ numbers (drop k ts)) (let q : suc i ≡ i + 1 = omega arith in q)
-
-  pub left-each : (P : X → Type 0) → Each P (numbers (drop i ts)) → P x.0 × Each P (numbers (drop (i + 1) ts))
-  left-each P h = subst (Each P) left-split h
 
 -- ---- the weight of a chain of tensors that was pushed, times a number
 

@@ -1,5 +1,5 @@
 -- Cells of a space with their degree and a bounded reach, and the tensors of two of them as tensors of the code.
-use Rattle.std.proofs.Common.{◌≡◌, ℕ, suc, ◌+◌, ◌*◌, ◌<◌, ◌≤◌, Bool, true, false, not, ◌&&◌, [], ◌∷◌, ◌++◌, map, refl, sym, ◌∙◌, ap, subst, arith}
+use Rattle.std.proofs.Common.{◌≡◌, ℕ, ◌+◌, ◌*◌, ◌<◌, ◌≤◌, Bool, true, false, not, ◌&&◌, [], ◌∷◌, map, refl, sym, ◌∙◌, ap, subst, arith}
 use Rattle.fp_field.specs.Chains.{Terms, Each}
 use Rattle.fp_field.proofs.Weights.{Each-append}
 use Rattle.spaces.specs.Simplicial.{is_degenerate}
@@ -13,11 +13,10 @@ use Rattle.cells.specs.declared.cells.Simplex.{Simplex}
 use Rattle.cells.specs.Dim.{dim_of}
 use Rattle.ez_laws.proofs.Eaches.{each-so, each-and}
 use Rattle.ez_flow.specs.Parts.{HasSimplex}
-use Rattle.ez_maps.specs.Tensors.{bare, tensor_cmp, tensor_form, tensor_for}
-use Rattle.tensor_red.specs.declared.tensors.Tensor.{Tensor as CodeTensor}
+use Rattle.ez_maps.specs.Tensors.{bare, tensor_cmp, tensor_for}
 use Rattle.term_lang.specs.Forms.{cell_form, form}
 use Rattle.term_lang.specs.Quote.{quote, quote_cell}
-use Rattle.term_lang.specs.NormalForms.{HasNormalForms, HasNormalCells}
+use Rattle.term_lang.specs.NormalForms.{HasNormalForms}
 use Rattle.normal_forms.proofs.BuiltForms.{built_forms}
 use Rattle.space_faces.specs.Built.{IsAllowedBuilt}
 use Rattle.space_pairs.specs.Parts.{IsReached}

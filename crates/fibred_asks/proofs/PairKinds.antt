@@ -1,7 +1,5 @@
 -- Pairs of small cells that the code has, of base and fibre: their order, and those of the product of two chains.
-use Rattle.std.proofs.Common.{◌≡◌, ℕ, ◌+◌, ◌*◌, ◌≤◌, max, [], ◌∷◌, ◌++◌, map, sym, ap, arith}
-use Rattle.fp_field.specs.Field.{number}
-use Rattle.fp_field.specs.declared.prime.Prime.{Prime}
+use Rattle.std.proofs.Common.{◌≡◌, ℕ, ◌+◌, ◌*◌, ◌≤◌, max, [], ◌∷◌, map, arith}
 use Rattle.fp_field.specs.Chains.{Terms, Each}
 use Rattle.fp_field.proofs.Weights.{Each-append}
 use Rattle.spaces.specs.Spaces.{Space, product}

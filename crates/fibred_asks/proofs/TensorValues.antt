@@ -1,9 +1,8 @@
 -- What h of a tensor comes to, where none of its keys is refused: tensors of one degree more, with a bounded reach.
-use Rattle.std.proofs.Common.{◌≡◌, ℕ, suc, ◌+◌, ◌*◌, ◌<◌, ◌≤◌, List, [], ◌∷◌, ◌++◌, Option, Some, None, refl, sym, ◌∙◌, ap, subst, arith}
+use Rattle.std.proofs.Common.{◌≡◌, ℕ, suc, ◌≤◌, List, [], ◌∷◌, ◌++◌, Option, Some, None, refl, sym, ◌∙◌, ap, subst, arith}
 use Rattle.fp_field.specs.declared.prime.Prime.{Prime}
 use Rattle.fp_field.specs.Field.{number, sign}
 use Rattle.fp_field.specs.Chains.{Terms, Each, scale, extend}
-use Rattle.fp_field.specs.Normal.{normal}
 use Rattle.fp_field.specs.Reduction.{one}
 use Rattle.fp_field.proofs.FlowLaws.{Each-normal}
 use Rattle.fp_field.proofs.Weights.{Each-append, Each-scale}
@@ -12,7 +11,7 @@ use Rattle.cells.specs.Dim.{dim_of}
 use Rattle.spaces.specs.Spaces.{Space, Plain}
 use Rattle.spaces.specs.Orders.{ordered, by_degree}
 use Rattle.spaces.specs.SmallCells.{Small, small_degree}
-use Rattle.values.specs.Asks.{Cell as GradedCell, Right, ask, across, g, h as h_of, f as f_of, asked_with}
+use Rattle.values.specs.Asks.{Cell as GradedCell, ask, across, g, h as h_of, asked_with}
 use Rattle.values.specs.Perturbed.{tensor_terms}
 use Rattle.values.specs.Ranks.{IsValid}
 use Rattle.values.specs.Values.{value}
@@ -23,7 +22,6 @@ use Rattle.tensor_red.specs.declared.tensors.Tensor.{Tensor as CodeTensor}
 use Rattle.term_lang.specs.Forms.{cell_form}
 use Rattle.oracle_iface.specs.declared.keys.Key.{Key}
 use Rattle.oracle_iface.specs.declared.bodies.Over.{Over}
-use Rattle.oracle_iface.specs.KeyLaws.{IsShown}
 use Rattle.homology_rules.specs.Asking.{first_refusal}
 use Rattle.homology_rules.proofs.Answered.{none-split, or_then, refusal-append}
 use Rattle.homology_rules.proofs.Quoted.{each-extend}

@@ -14,7 +14,7 @@ use Rattle.part_asks.specs.OneKey.{f_at}
 use Rattle.part_asks.proofs.Readings.{found-none, found-value, found-over}
 use Rattle.part_asks.proofs.RightStages.{asked-next, may-next, refused-through, refused-whole, stage-asked}
 use Rattle.fibred_asks.specs.Asked.{prime_of, base_of, fibre_of, IsTensorIn, f_asked}
-use Rattle.fibred_asks.proofs.AlongTensors.{left-each}
+use Rattle.fibred_asks.proofs.AlongChains.{left-each}
 use Rattle.fibred_asks.proofs.AlongSmalls.{after_left, after_right, left-next, right-next, smalls-begun, smalls-more, smalls-none, smalls-through, smalls-found}
 use Rattle.fibred_asks.proofs.KeptCells.{own-bare}
 use Rattle.fibred_asks.proofs.smalls.on_smalls.Goals as goal

@@ -12,7 +12,8 @@ use Rattle.part_asks.specs.Askers.{t_tensor, normal_tensors}
 use Rattle.part_asks.proofs.Readings.{found-none, found-value, found-over}
 use Rattle.part_asks.proofs.RightStages.{asked-next, may-next, refused-through, refused-whole, stage-asked, valid-next}
 use Rattle.fibred_asks.specs.Asked.{prime_of, base_of, fibre_of, IsTensorIn, h_asked}
-use Rattle.fibred_asks.proofs.AlongTensors.{left-each, then_left, tensor-next, tensor-more, tensors-begun, tensors-none, tensors-through, tensors-found, tensors-kinds}
+use Rattle.fibred_asks.proofs.AlongChains.{left-each}
+use Rattle.fibred_asks.proofs.AlongTensors.{then_left, tensor-next, tensor-more, tensors-begun, tensors-none, tensors-through, tensors-found, tensors-kinds}
 use Rattle.fibred_asks.proofs.KeptCells.{own-bare}
 use Rattle.fibred_asks.proofs.tensors.on_tensors.Goals as goal
 
