@@ -14,7 +14,7 @@ use cells::Cell;
 use chain_core::Chain;
 use ez_maps::Tensor;
 use oracle_iface::Forcer;
-use part_asks::Found;
+use part_asks::{Found, push_scaled, tensor_t};
 use std::alloc::{AllocError, Global};
 
 /// h of the tensor product of the reductions of base and fibre along a chain of tensors of degree n, whose cells have a reach of at most
@@ -39,5 +39,12 @@ pub fn on_tensors<F: Forcer>(
     ensures found { IfOk result (λ o. IsFound (formal_tensors (prime_of m.now) (base_of m.now) (fibre_of m.now)) (prime_of m.now) (h_asked m.now c.now.terms) o) }
     ensures tensors { IfOk result (λ o. IfFound (EachIn (IsTensorIn m.now most (suc n))) o) }
 {
-    unreachable!()
+    let mut terms = Vec::new(alloc);
+    for (x, coefficient) in c.terms() {
+        match tensor_t(alloc, m.base, m.fibre, x, forcer)? {
+            Found::Over(over) => return Ok(Found::Over(over)),
+            Found::Value(image) => push_scaled(&mut terms, &image, *coefficient)?,
+        }
+    }
+    Ok(Found::Value(Chain::from_terms(alloc, m.base.prime, terms)?))
 }

@@ -1,0 +1,14 @@
+use Rattle.std.proofs.Common.{ℕ, ◌+◌, ◌*◌, ◌<◌, All, take}
+use Rattle.fp_field.specs.Field.{number, SameMod}
+use Rattle.fp_field.specs.Chains.{weigh}
+use Rattle.cells.specs.declared.cells.SmallCell.{SmallCell}
+use Rattle.cells.specs.declared.cells.SmallCell.TheVariants.{Pair}
+use Rattle.chain_core.specs.Formal.{numbers}
+use Rattle.fibred_asks.proofs.smalls.push_products.Given as goal
+
+abbrev pub invariant-loop-y : goal.invariant-loop-y
+invariant-loop-y l = record {
+  elements : All (λ t. t.1.value < number l.p) l.terms.items;
+  total : (w : SmallCell → ℕ) → SameMod (number l.p) (weigh w (numbers l.terms.items))
+      (weigh w (numbers l.initial.terms.items) + l.c.value * weigh (λ y. weigh (λ z. w (Pair y z)) l.right.terms) (numbers (take l.y-index l.y-items)));
+}
