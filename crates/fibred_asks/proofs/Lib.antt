@@ -1,0 +1,4 @@
+pub mod CappedReach
+pub mod BuiltSpaces
+pub mod WithinLimits
+pub mod ReachedValues
