@@ -5,3 +5,7 @@ pub mod AlongTensors
 pub mod PairSums
 pub mod PairKinds
 pub mod AlongSmalls
+pub mod CappedReach
+pub mod BuiltSpaces
+pub mod WithinLimits
+pub mod ReachedValues

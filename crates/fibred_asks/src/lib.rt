@@ -1,12 +1,14 @@
 //! The second perturbation of products and circle bundles and their four maps on cells of the code, by asking for the maps of base and fibre.
 #![tactic(auto)]
 
+mod laws;
 mod maps;
 mod series;
 mod smalls;
 mod tensors;
 mod totals;
 
+pub use laws::reached_values;
 pub use maps::{Maps, fibred};
 pub use series::{second_p, second_s};
 pub use smalls::on_smalls;
