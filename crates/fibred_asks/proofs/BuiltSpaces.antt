@@ -43,7 +43,9 @@ faces-again (x ∷ fs) words = λ j. (word-again x.0 (words 0 (omega arith)) j, 
 rows-again : (t : Table) → ((r i : ℕ) → r < length t → i < length (row_at t r).faces → IsWord 32 (listed_face t i r).0) → map row_of (map row_back t) ≡ t
 rows-again [] words = refl
 rows-again (r ∷ t) words =
-    λ j. record { name = r.name; dim = r.dim; faces = faces-again r.faces (λ i l. words 0 i (omega arith) l) j } ∷ rows-again t (λ s i l h. words (suc s) i (omega (arith, l)) h) j
+    λ j.
+    record { name = r.name; dim = r.dim; faces = faces-again r.faces (λ i l. words 0 i (omega arith) l) j }
+    ∷ rows-again t (λ s i l h. words (suc s) i (omega (arith, l)) h) j
 
 listed-word : (t : Table) → IsTable t → (r i : ℕ) → r < length t → i < length (row_at t r).faces → IsWord 32 (listed_face t i r).0
 listed-word t is r i l h = by (row_at t r).dim refl

@@ -36,7 +36,8 @@ total-within (a ∷ x) l = omega (arith, l, total-within x (omega (arith, l)))
 list-within : (n : ℕ) (x : List ℤ) → length x ≡ n → n ≤ 32 → greatest nat_abs x ≤ 100000 → total x ≤ 3200000
 list-within n x e h l = omega (arith, e, h, total-within x l)
 
-reach-capped : (X : Space) → Admits X → IsBuilt X → (n : ℕ) (x : Plain X) → n ≤ 32 → (set_of X).In n x → integer X x ≤ 100000 → reach X x ≤ cap (space_depth X)
+reach-capped : (X : Space) → Admits X → IsBuilt X → (n : ℕ) (x : Plain X) → n ≤ 32 → (set_of X).In n x → integer X x ≤ 100000
+    → reach X x ≤ cap (space_depth X)
 reach-capped (table t) is built n x h j l = omega arith
 reach-capped (sphere m) is built n x h j l = omega arith
 reach-capped (product a b) is built n x h j l =
@@ -53,7 +54,8 @@ reach-capped (kzm1 m) is built n x h j l = absurd built
 reach-capped (cyclic_bundle t m c) is built n x h j l = absurd built
 
 -- at most that of a space of depth 8
-pub reach-limited : (X : Space) → IsAllowed X → IsBuilt X → (n : ℕ) (x : Plain X) → n ≤ 32 → (set_of X).In n x → integer X x ≤ 100000 → reach X x ≤ limited_reach
+pub reach-limited : (X : Space) → IsAllowed X → IsBuilt X → (n : ℕ) (x : Plain X) → n ≤ 32 → (set_of X).In n x → integer X x ≤ 100000
+    → reach X x ≤ limited_reach
 reach-limited X is built n x h j l =
     let e : cap 8 ≡ limited_reach = refl in
     omega (arith, e, reach-capped X is.0 built n x h j l, cap-rises (space_depth X) 8 is.1)
