@@ -1,0 +1,4 @@
+pub mod TensorKeys
+pub mod ShownTensors
+pub mod SeriesSteps
+pub mod SeriesRounds

@@ -4,6 +4,7 @@
 mod maps;
 mod series;
 mod smalls;
+mod steps;
 mod tensors;
 mod totals;
 
