@@ -83,6 +83,9 @@ module _ {F : Type 0} (calls : Calls F) (p : Prime) (a b : Space) (values : Opti
   left-start done c k s d e f v =
       subst (λ (z : Terms (Tensor Cell Cell) × ℕ × Terms (Tensor Cell Cell)). Left z.0 z.1 z.2 s s) (λ i. (sym d i, sym e i, sym f i)) (R.stage-start calls p whole s v)
 
+  pub left-so_far : (done c : Terms (Tensor Cell Cell)) (k : ℕ) (s t : F) → Left done k c s t → AskedFirst calls (keys_of p whole) s t
+  left-so_far done c k s t stage = R.stage-asked calls p whole (series_left by (number p) step (read done) k (read c)) s t stage
+
   module _ (done c : Terms (Tensor Cell Cell)) (k : ℕ) (s t : F) (l : 0 < k) (stage : Left done k c s t) where
     abbrev rest : Terms (PlainTensor (Plain a) (Plain b)) → Right (Terms (PlainTensor (Plain a) (Plain b)))
     rest y = series_left by (number p) step (read done ++ read c) (k - 1) (minus_of p a b values y)

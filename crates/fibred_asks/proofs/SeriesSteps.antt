@@ -1,6 +1,6 @@
 -- One step of the sums of the second perturbation on chains of the code: what is asked, and that what is found is the step of what the chain
 -- stands for.
-use Rattle.std.proofs.Common.{◌≡◌, ℕ, suc, ◌+◌, ◌-◌, ◌≤◌, List, Option, Some, None, ℤ, sym, ◌∙◌, ap, subst}
+use Rattle.std.proofs.Common.{◌≡◌, ℕ, suc, ◌+◌, ◌-◌, ◌≤◌, List, Option, Some, None, ℤ, sym, ◌∙◌, ap, subst, arith}
 use Rattle.fp_field.specs.declared.prime.Prime.{Prime}
 use Rattle.fp_field.specs.Field.{number}
 use Rattle.fp_field.specs.Chains.{Terms, Each}
@@ -32,6 +32,16 @@ use Rattle.fibred_asks.specs.Seconds.{h_on}
 use Rattle.fibred_asks.specs.Steps.{step_on}
 use Rattle.fibred_asks.proofs.TensorKeys.{difference-keys, from-code, reads-back}
 use Rattle.fibred_asks.proofs.ShownTensors.{shown-read, homotopy-shown}
+
+pub next_is : (n : ℕ) → n + 1 ≡ suc n
+next_is n = omega arith
+
+pub less_is : (n : ℕ) → n + 1 - 1 ≡ n
+less_is n = omega arith
+
+-- what holds of a value that was found
+pub if_found : {T : Type 0} (P : T → Type 0) (o : Found T) (v : T) → o ≡ Value v → IfFound P o → P v
+if_found P o v e h = subst (IfFound P) e h
 
 module _ (p : Prime) (a b : Space) (values : Option (List ℤ)) where
   abbrev pub read : Terms (Tensor Cell Cell) → Terms (PlainTensor (Plain a) (Plain b))

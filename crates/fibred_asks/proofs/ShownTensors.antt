@@ -53,8 +53,12 @@ module _ (p : Prime) (a b : Space) where
         one-read : (z : Tensor (Plain a) (Plain b)) → IsShownTensor a b z → tensor_form dim_of (λ s. form s a) (λ s. form s b) (by_cells a b z) ≡ z
         one-read z g =
             read-same p a b (by_cells a b z)
-            ∙ (λ i. (dim-quoted a z.0 (cells_a z.0 g.0.0) z.1 g.0.1 i, form-quoted a z.0 (cells_a z.0 g.0.0) z.1 g.0.1 i,
-            dim-quoted b z.2 (cells_b z.2 g.1.0) z.3 g.1.1 i, form-quoted b z.2 (cells_b z.2 g.1.0) z.3 g.1.1 i))
+            ∙ (λ i. (
+              dim-quoted a z.0 (cells_a z.0 g.0.0) z.1 g.0.1 i,
+              form-quoted a z.0 (cells_a z.0 g.0.0) z.1 g.0.1 i,
+              dim-quoted b z.2 (cells_b z.2 g.1.0) z.3 g.1.1 i,
+              form-quoted b z.2 (cells_b z.2 g.1.0) z.3 g.1.1 i,
+            ))
 
     pub shown-read : (c : Terms (Tensor (Plain a) (Plain b))) → Each (IsShownTensor a b) c → read_tensors a b (quote_tensors a b c) ≡ c
     shown-read c h = ap (read_tensors a b) (terms-for a b c h) ∙ cells-read c h

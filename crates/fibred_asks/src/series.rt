@@ -35,7 +35,7 @@ fn collect<K: Ord + Drop>(terms: &mut Vec<(K, Fp)>, chain: Chain<K>) -> Result<(
 }
 
 /// The sum of the n + 1 terms of a series on a chain of tensors of degree n, each minus a step of the term before it.
-fn series<F: Forcer>(
+fn series_by<F: Forcer>(
     alloc: Global,
     m: &Maps,
     first: First,
@@ -99,7 +99,7 @@ pub fn second_p<F: Forcer>(
     ensures found { IfOk result (λ o. IsFound (formal_tensors (prime_of m.now) (base_of m.now) (fibre_of m.now)) (prime_of m.now) (p2_asked m.now n c.now.terms) o) }
     ensures tensors { IfOk result (λ o. IfFound (EachIn (IsTensorIn m.now (series_room (values_of m.now) n most) n)) o) }
 {
-    series(alloc, m, First::Difference, n, most, c, forcer)
+    series_by(alloc, m, First::Difference, n, most, c, forcer)
 }
 
 /// S2 on a chain of tensors of degree n: the sum of the terms (-1)^i (r t)^i of it, for i up to n.
@@ -125,5 +125,5 @@ pub fn second_s<F: Forcer>(
     ensures found { IfOk result (λ o. IsFound (formal_tensors (prime_of m.now) (base_of m.now) (fibre_of m.now)) (prime_of m.now) (s2_asked m.now n c.now.terms) o) }
     ensures tensors { IfOk result (λ o. IfFound (EachIn (IsTensorIn m.now (series_room (values_of m.now) (suc n) most) n)) o) }
 {
-    series(alloc, m, First::Homotopy, n, most, c, forcer)
+    series_by(alloc, m, First::Homotopy, n, most, c, forcer)
 }
