@@ -4,11 +4,12 @@
 -- In degree n the difference is taken of tensors of degree n where it comes first, and of degree n + 1 where the homotopy does.
 --
 --   of a product, whose twist is 0, the difference of each chain is 0, so a step of either series gives the zero chain
-use Rattle.std.specs.Prelude.{ℕ, suc, ◌-◌, Option, ℤ, List}
+use Rattle.std.specs.Prelude.{◌≡◌, ℕ, suc, ◌-◌, Option, ℤ, List}
 use Rattle.fp_field.specs.declared.prime.Prime.{Prime}
 use Rattle.fp_field.specs.Field.{number}
 use Rattle.fp_field.specs.Chains.{Terms, scale}
 use Rattle.fp_field.specs.Normal.{normal}
+use Rattle.chain_core.specs.Formal.{Formal}
 use Rattle.spaces.specs.Spaces.{Space, Plain}
 use Rattle.spaces.specs.Orders.{ordered}
 use Rattle.spaces.specs.EilenbergZilber.{Tensor, linear, tensor_order}
@@ -17,6 +18,7 @@ use Rattle.values.specs.Perturbed.{on_t, r, r_after_t, asked_terms}
 use Rattle.values.specs.Rules.{part}
 use Rattle.cells.specs.declared.cells.Cell.{Cell}
 use Rattle.tensor_red.specs.declared.tensors.Tensor.{Tensor as CodeTensor}
+use Rattle.part_asks.specs.Reading.{value_of}
 use Rattle.twist_chains.specs.Fibred.{twist_by, read_tensors}
 use Rattle.fibred_asks.specs.declared.steps.First.{First}
 use Rattle.fibred_asks.specs.declared.steps.First.TheVariants.{Difference, Homotopy}
@@ -56,3 +58,7 @@ module _ (m : Maps) where
 
   abbrev pub series_asked : First → ℕ → Terms (CodeTensor Cell Cell) → Right (Terms (Tensor (Plain (base_of m)) (Plain (fibre_of m))))
   series_asked first n c = series_on (prime_of m) (base_of m) (fibre_of m) (values_of m) first n (read_tensors (base_of m) (fibre_of m) c)
+
+  -- the chain of the code stands for a step of the series from another one
+  abbrev pub IsStepOf : First → ℕ → Terms (CodeTensor Cell Cell) → Formal (CodeTensor Cell Cell) → Type 0
+  IsStepOf first n c d = read_tensors (base_of m) (fibre_of m) d.terms ≡ value_of (prime_of m) (step_asked first n c)

@@ -6,13 +6,13 @@ ghost use Rattle.homology_rules.specs.Asking.{MayForceEach, AskedFirst, EachAnsw
 ghost use Rattle.space_faces.specs.Built.{IsAllowedBuilt};
 ghost use Rattle.part_asks.specs.Along.{AsksValid};
 ghost use Rattle.part_asks.specs.Askers.{formal_tensors};
-ghost use Rattle.part_asks.specs.Reading.{keys_of, value_of, IsFound};
-ghost use Rattle.twist_chains.specs.Fibred.{room, read_tensors, difference_of};
+ghost use Rattle.part_asks.specs.Reading.{keys_of, IsFound};
+ghost use Rattle.twist_chains.specs.Fibred.{room, difference_of};
 ghost use Rattle.fibred_asks.specs.declared.steps.First.TheVariants.{Difference, Homotopy};
 ghost use Rattle.fibred_asks.specs.Parts.{AreParts, IfFound, EachIn};
 ghost use Rattle.fibred_asks.specs.Reached.{limited_reach};
 ghost use Rattle.fibred_asks.specs.Asked.{prime_of, base_of, fibre_of, values_of, HasTwist, IsTensorIn};
-ghost use Rattle.fibred_asks.specs.Steps.{top_of, end_of, step_asked};
+ghost use Rattle.fibred_asks.specs.Steps.{top_of, end_of, step_asked, IsStepOf};
 
 use crate::maps::{Maps, fibred};
 use crate::tensors::on_tensors;
@@ -105,7 +105,7 @@ fn homotopy_of_difference<F: Forcer>(
     ensures asked { AskedFirst F.forces (keys_of (prime_of m.now) (step_asked m.now Difference n c.now.terms)) forcer.old forcer.new }
     ensures through { IfOk result (λ o. EachAnswered F.forces forcer.old (up_to_refusal (keys_of (prime_of m.now) (step_asked m.now Difference n c.now.terms))) forcer.new) }
     ensures found { IfOk result (λ o. IsFound (formal_tensors (prime_of m.now) (base_of m.now) (fibre_of m.now)) (prime_of m.now) (step_asked m.now Difference n c.now.terms) o) }
-    ensures back { IfOk result (λ o. IfFound (λ d. read_tensors (base_of m.now) (fibre_of m.now) d.terms ≡ value_of (prime_of m.now) (step_asked m.now Difference n c.now.terms)) o) }
+    ensures back { IfOk result (λ o. IfFound (IsStepOf m.now Difference n c.now.terms) o) }
     ensures tensors { IfOk result (λ o. IfFound (EachIn (IsTensorIn m.now (room (values_of m.now) n most) (end_of Difference n))) o) }
 {
     let change = difference_in(alloc, m, n, most, c)?;
@@ -133,7 +133,7 @@ fn difference_of_homotopy<F: Forcer>(
     ensures asked { AskedFirst F.forces (keys_of (prime_of m.now) (step_asked m.now Homotopy n c.now.terms)) forcer.old forcer.new }
     ensures through { IfOk result (λ o. EachAnswered F.forces forcer.old (up_to_refusal (keys_of (prime_of m.now) (step_asked m.now Homotopy n c.now.terms))) forcer.new) }
     ensures found { IfOk result (λ o. IsFound (formal_tensors (prime_of m.now) (base_of m.now) (fibre_of m.now)) (prime_of m.now) (step_asked m.now Homotopy n c.now.terms) o) }
-    ensures back { IfOk result (λ o. IfFound (λ d. read_tensors (base_of m.now) (fibre_of m.now) d.terms ≡ value_of (prime_of m.now) (step_asked m.now Homotopy n c.now.terms)) o) }
+    ensures back { IfOk result (λ o. IfFound (IsStepOf m.now Homotopy n c.now.terms) o) }
     ensures tensors { IfOk result (λ o. IfFound (EachIn (IsTensorIn m.now (room (values_of m.now) (top_of Homotopy n) most) n)) o) }
 {
     let raised = match on_tensors(alloc, m, n, most, c, forcer)? {
@@ -165,7 +165,7 @@ pub fn step<F: Forcer>(
     ensures asked { AskedFirst F.forces (keys_of (prime_of m.now) (step_asked m.now first n c.now.terms)) forcer.old forcer.new }
     ensures through { IfOk result (λ o. EachAnswered F.forces forcer.old (up_to_refusal (keys_of (prime_of m.now) (step_asked m.now first n c.now.terms))) forcer.new) }
     ensures found { IfOk result (λ o. IsFound (formal_tensors (prime_of m.now) (base_of m.now) (fibre_of m.now)) (prime_of m.now) (step_asked m.now first n c.now.terms) o) }
-    ensures back { IfOk result (λ o. IfFound (λ d. read_tensors (base_of m.now) (fibre_of m.now) d.terms ≡ value_of (prime_of m.now) (step_asked m.now first n c.now.terms)) o) }
+    ensures back { IfOk result (λ o. IfFound (IsStepOf m.now first n c.now.terms) o) }
     ensures tensors { IfOk result (λ o. IfFound (EachIn (IsTensorIn m.now (room (values_of m.now) (top_of first n) most) (end_of first n))) o) }
 {
     match first {

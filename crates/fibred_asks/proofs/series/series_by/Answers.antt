@@ -20,7 +20,7 @@ use Rattle.part_asks.proofs.Readings.{found-none, found-value, found-over}
 use Rattle.fibred_asks.specs.Parts.{EachIn}
 use Rattle.fibred_asks.specs.Seconds.{series_room}
 use Rattle.fibred_asks.specs.Asked.{prime_of, base_of, fibre_of, values_of, IsTensorIn}
-use Rattle.fibred_asks.specs.Steps.{top_of, end_of, step_asked, series_asked}
+use Rattle.fibred_asks.specs.Steps.{top_of, end_of, step_asked, series_asked, IsStepOf}
 use Rattle.fibred_asks.proofs.SeriesSteps.{if_found}
 use Rattle.fibred_asks.proofs.TensorKeys.{within-wider}
 use Rattle.fibred_asks.proofs.SeriesRounds.{top-above, end-same, room-start, room-now, room-next, left-start, left-may, left-valid, left-asked, left-refused, left-through, left-next, left-none, left-all, left-found, left-so_far, minus-read, minus-within}
@@ -30,7 +30,7 @@ pub returns-in_err-term-clause-asked : goal.returns-in_err-term-clause-asked
 returns-in_err-term-clause-asked g c = asked-nothing g.F.Forcer.forces (keys_of (prime_of c.args.m.now) (series_asked c.args.m.now c.args.first c.args.n c.args.c.now.terms)) c.args.forcer.now
 
 pub loop-left-init : goal.loop-left-init
-loop-left-init g c =
+loop-left-init g c = 
     let is : c.in_ok-term.term ≡ c.args.c.now = c.in_ok-term.ensures.cases (λ x y e. e) in
     record {
       prime = ap (λ (d : Formal (CodeTensor Cell Cell)). d.prime) is ∙ c.requires.prime;
@@ -86,11 +86,11 @@ loop-left-preserved g c = record {
       (within-wider (base_of c.args.m.now) (fibre_of c.args.m.now) c.loop-left.reach (series_room (values_of c.args.m.now) (top_of c.args.first c.args.n) c.args.most) c.args.n (omega (arith, (room-now c.loop-left.left c.loop-left.reach (((top_of c.args.first c.args.n) + 2) * growth (values_of c.args.m.now)) (series_room (values_of c.args.m.now) (top_of c.args.first c.args.n) c.args.most) c.loop-left-test.true c.loop-left.invariant.fits))) c.loop-left.term.terms (c.loop-left.invariant.next c.loop-left-test.true)));
   next = λ l.
       subst (λ (z : ℕ × ℕ). Each (IsTensorIn c.args.m.now z.0 z.1) c.negated.result.terms) (λ i. (sym (c.reach_after.ensures ∙ ap (λ k. room (values_of c.args.m.now) k c.loop-left.reach) c.top.ensures) i, end-same c.args.first c.args.n (c.loop-left.left - 1) l (omega (arith, c.loop-left.invariant.few)) i))
-      (minus-within (prime_of c.args.m.now) (base_of c.args.m.now) (fibre_of c.args.m.now) c.requires.parts.base_built c.requires.parts.fibre_built (values_of c.args.m.now) (room (values_of c.args.m.now) (top_of c.args.first c.args.n) c.loop-left.reach) (end_of c.args.first c.args.n) (value_of (prime_of c.args.m.now) (step_asked c.args.m.now c.args.first c.args.n c.loop-left.term.terms)) c.in-Value.next c.negated.result (found-value (formal_tensors (prime_of c.args.m.now) (base_of c.args.m.now) (fibre_of c.args.m.now)) (prime_of c.args.m.now) (step_asked c.args.m.now c.args.first c.args.n c.loop-left.term.terms) _ c.in-Value.next c.in-Value.is c.in_ok-over.ensures.found) (if_found (λ (d : Formal (CodeTensor Cell Cell)). read_tensors (base_of c.args.m.now) (fibre_of c.args.m.now) d.terms ≡ value_of (prime_of c.args.m.now) (step_asked c.args.m.now c.args.first c.args.n c.loop-left.term.terms)) _ c.in-Value.next c.in-Value.is c.in_ok-over.ensures.back) (if_found (EachIn (IsTensorIn c.args.m.now (room (values_of c.args.m.now) (top_of c.args.first c.args.n) c.loop-left.reach) (end_of c.args.first c.args.n))) _ c.in-Value.next c.in-Value.is c.in_ok-over.ensures.tensors) c.negated.ensures.terms);
+      (minus-within (prime_of c.args.m.now) (base_of c.args.m.now) (fibre_of c.args.m.now) c.requires.parts.base_built c.requires.parts.fibre_built (values_of c.args.m.now) (room (values_of c.args.m.now) (top_of c.args.first c.args.n) c.loop-left.reach) (end_of c.args.first c.args.n) (value_of (prime_of c.args.m.now) (step_asked c.args.m.now c.args.first c.args.n c.loop-left.term.terms)) c.in-Value.next c.negated.result (found-value (formal_tensors (prime_of c.args.m.now) (base_of c.args.m.now) (fibre_of c.args.m.now)) (prime_of c.args.m.now) (step_asked c.args.m.now c.args.first c.args.n c.loop-left.term.terms) _ c.in-Value.next c.in-Value.is c.in_ok-over.ensures.found) (if_found (IsStepOf c.args.m.now c.args.first c.args.n c.loop-left.term.terms) _ c.in-Value.next c.in-Value.is c.in_ok-over.ensures.back) (if_found (EachIn (IsTensorIn c.args.m.now (room (values_of c.args.m.now) (top_of c.args.first c.args.n) c.loop-left.reach) (end_of c.args.first c.args.n))) _ c.in-Value.next c.in-Value.is c.in_ok-over.ensures.tensors) c.negated.ensures.terms);
   far = let e = (c.reach_after.ensures ∙ ap (λ k. room (values_of c.args.m.now) k c.loop-left.reach) c.top.ensures) in omega (arith, e, c.loop-left.invariant.far);
   few = omega (arith, c.loop-left.invariant.few);
   fits = subst (λ k. k + (c.loop-left.left - 1) * (((top_of c.args.first c.args.n) + 2) * growth (values_of c.args.m.now)) ≤ (series_room (values_of c.args.m.now) (top_of c.args.first c.args.n) c.args.most)) (sym (c.reach_after.ensures ∙ ap (λ k. room (values_of c.args.m.now) k c.loop-left.reach) c.top.ensures)) (room-next c.loop-left.left c.loop-left.reach (((top_of c.args.first c.args.n) + 2) * growth (values_of c.args.m.now)) (series_room (values_of c.args.m.now) (top_of c.args.first c.args.n) c.args.most) c.loop-left-test.true c.loop-left.invariant.fits);
-  stage = left-next g.F.Forcer.forces (prime_of c.args.m.now) (base_of c.args.m.now) (fibre_of c.args.m.now) (values_of c.args.m.now) c.args.first c.args.n c.args.c.now.terms (numbers c.loop-left.sum.items) c.loop-left.term.terms c.loop-left.left c.args.forcer.now c.loop-left.forcer c.loop-left-test.true c.loop-left.invariant.stage (numbers c.collect.new.terms.items) c.negated.result.terms c.step.new.forcer c.in_ok-collect.ensures.sum (minus-read (prime_of c.args.m.now) (base_of c.args.m.now) (fibre_of c.args.m.now) c.requires.parts.base_built c.requires.parts.fibre_built (values_of c.args.m.now) (room (values_of c.args.m.now) (top_of c.args.first c.args.n) c.loop-left.reach) (end_of c.args.first c.args.n) (value_of (prime_of c.args.m.now) (step_asked c.args.m.now c.args.first c.args.n c.loop-left.term.terms)) c.in-Value.next c.negated.result (found-value (formal_tensors (prime_of c.args.m.now) (base_of c.args.m.now) (fibre_of c.args.m.now)) (prime_of c.args.m.now) (step_asked c.args.m.now c.args.first c.args.n c.loop-left.term.terms) _ c.in-Value.next c.in-Value.is c.in_ok-over.ensures.found) (if_found (λ (d : Formal (CodeTensor Cell Cell)). read_tensors (base_of c.args.m.now) (fibre_of c.args.m.now) d.terms ≡ value_of (prime_of c.args.m.now) (step_asked c.args.m.now c.args.first c.args.n c.loop-left.term.terms)) _ c.in-Value.next c.in-Value.is c.in_ok-over.ensures.back) (if_found (EachIn (IsTensorIn c.args.m.now (room (values_of c.args.m.now) (top_of c.args.first c.args.n) c.loop-left.reach) (end_of c.args.first c.args.n))) _ c.in-Value.next c.in-Value.is c.in_ok-over.ensures.tensors) c.negated.ensures.terms) (found-none (formal_tensors (prime_of c.args.m.now) (base_of c.args.m.now) (fibre_of c.args.m.now)) (prime_of c.args.m.now) (step_asked c.args.m.now c.args.first c.args.n c.loop-left.term.terms) _ c.in-Value.next c.in-Value.is c.in_ok-over.ensures.found) c.in_ok-over.ensures.through;
+  stage = left-next g.F.Forcer.forces (prime_of c.args.m.now) (base_of c.args.m.now) (fibre_of c.args.m.now) (values_of c.args.m.now) c.args.first c.args.n c.args.c.now.terms (numbers c.loop-left.sum.items) c.loop-left.term.terms c.loop-left.left c.args.forcer.now c.loop-left.forcer c.loop-left-test.true c.loop-left.invariant.stage (numbers c.collect.new.terms.items) c.negated.result.terms c.step.new.forcer c.in_ok-collect.ensures.sum (minus-read (prime_of c.args.m.now) (base_of c.args.m.now) (fibre_of c.args.m.now) c.requires.parts.base_built c.requires.parts.fibre_built (values_of c.args.m.now) (room (values_of c.args.m.now) (top_of c.args.first c.args.n) c.loop-left.reach) (end_of c.args.first c.args.n) (value_of (prime_of c.args.m.now) (step_asked c.args.m.now c.args.first c.args.n c.loop-left.term.terms)) c.in-Value.next c.negated.result (found-value (formal_tensors (prime_of c.args.m.now) (base_of c.args.m.now) (fibre_of c.args.m.now)) (prime_of c.args.m.now) (step_asked c.args.m.now c.args.first c.args.n c.loop-left.term.terms) _ c.in-Value.next c.in-Value.is c.in_ok-over.ensures.found) (if_found (IsStepOf c.args.m.now c.args.first c.args.n c.loop-left.term.terms) _ c.in-Value.next c.in-Value.is c.in_ok-over.ensures.back) (if_found (EachIn (IsTensorIn c.args.m.now (room (values_of c.args.m.now) (top_of c.args.first c.args.n) c.loop-left.reach) (end_of c.args.first c.args.n))) _ c.in-Value.next c.in-Value.is c.in_ok-over.ensures.tensors) c.negated.ensures.terms) (found-none (formal_tensors (prime_of c.args.m.now) (base_of c.args.m.now) (fibre_of c.args.m.now)) (prime_of c.args.m.now) (step_asked c.args.m.now c.args.first c.args.n c.loop-left.term.terms) _ c.in-Value.next c.in-Value.is c.in_ok-over.ensures.found) c.in_ok-over.ensures.through;
 }
 
 pub from_terms-requires-clause-one_key : goal.from_terms-requires-clause-one_key
