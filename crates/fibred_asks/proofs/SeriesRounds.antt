@@ -30,7 +30,7 @@ use Rattle.part_asks.proofs.RightStages as R
 use Rattle.part_asks.proofs.SeriesLeft.{series_left, series-step, series-end}
 use Rattle.space_faces.specs.Built.{IsAllowedBuilt}
 use Rattle.twist_chains.specs.Fibred.{read_tensors, quote_tensors, IsTensorWithin}
-use Rattle.twist_chains.proofs.FirstTerms as F
+use Rattle.twist_chains.proofs.FirstTerms as T
 use Rattle.fibred_asks.specs.declared.steps.First.{First}
 use Rattle.fibred_asks.specs.declared.steps.First.TheVariants.{Difference, Homotopy}
 use Rattle.fibred_asks.specs.Steps.{top_of, end_of, step_on, series_on, minus_of}
@@ -138,8 +138,8 @@ module _ {F : Type 0} (calls : Calls F) (p : Prime) (a b : Space) (values : Opti
       where
         all : x.terms ≡ quote_tensors a b (value_of p whole)
         all =
-            terms ∙ ap (normal tensor_cmp (number p)) (sym (F.tensors-back (number p) (number_pos p) a b ka kb m n done h))
-            ∙ normal-quoted (number p) (number_pos p) a b ka kb m n (read done) (F.tensors-read (number p) (number_pos p) a b ka kb m n done h)
+            terms ∙ ap (normal tensor_cmp (number p)) (sym (T.tensors-back (number p) (number_pos p) a b ka kb m n done h))
+            ∙ normal-quoted (number p) (number_pos p) a b ka kb m n (read done) (T.tensors-read (number p) (number_pos p) a b ka kb m n done h)
             ∙ ap (quote_tensors a b) (sym ended.value_is)
 
 -- ---- the next term
@@ -149,7 +149,7 @@ module _ (p : Prime) (a b : Space) (ka : IsAllowedBuilt a) (kb : IsAllowedBuilt 
     (v x : Formal (Tensor Cell Cell)) (found : v ≡ formal_tensors p a b y) (back : read_tensors a b v.terms ≡ y) (within : Each (IsTensorWithin a b m n) v.terms)
     (minus : x.terms ≡ normal tensor_cmp (number v.prime) (scale (number v.prime - 1) v.terms)) where
   keys : Each (Key (number p) (number_pos p) a b ka kb m n) y
-  keys = subst (Each (Key (number p) (number_pos p) a b ka kb m n)) back (F.tensors-read (number p) (number_pos p) a b ka kb m n v.terms within)
+  keys = subst (Each (Key (number p) (number_pos p) a b ka kb m n)) back (T.tensors-read (number p) (number_pos p) a b ka kb m n v.terms within)
 
   is-quoted : x.terms ≡ quote_tensors a b (minus_of p a b values y)
   is-quoted =
@@ -164,4 +164,4 @@ module _ (p : Prime) (a b : Space) (ka : IsAllowedBuilt a) (kb : IsAllowedBuilt 
   pub minus-within : Each (IsTensorWithin a b m n) x.terms
   minus-within =
       subst (Each (IsTensorWithin a b m n)) (sym is-quoted)
-      (F.tensors-are (number p) (number_pos p) a b ka kb m n (minus_of p a b values y) (minus-keys (number p) (number_pos p) a b ka kb m n y keys))
+      (T.tensors-are (number p) (number_pos p) a b ka kb m n (minus_of p a b values y) (minus-keys (number p) (number_pos p) a b ka kb m n y keys))

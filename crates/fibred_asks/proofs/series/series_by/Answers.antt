@@ -31,7 +31,7 @@ returns-in_err-term-clause-asked g c = asked-nothing g.F.Forcer.forces (keys_of 
 
 pub loop-left-init : goal.loop-left-init
 loop-left-init g c = 
-    let is : c.in_ok-term.term ≡ c.args.c.now = c.in_ok-term.ensures.cases (λ x y e. e) in
+    let is : c.in_ok-term.term ≡ c.args.c.now = c.in_ok-term.ensures.cases (λ x y e. λ i. record { left = e.0 i; right = e.1 i }) in
     record {
       prime = ap (λ (d : Formal (CodeTensor Cell Cell)). d.prime) is ∙ c.requires.prime;
       elements = All-same (λ t. t.1.value < number (prime_of c.args.m.now)) c.new-sum.result.items [] c.new-sum.ensures.items (λ k d l. absurd (omega (arith, l)));
@@ -67,30 +67,30 @@ returns-in-Over-clause-through g c = left-through g.F.Forcer.forces (prime_of c.
 pub returns-in-Over-clause-found : goal.returns-in-Over-clause-found
 returns-in-Over-clause-found g c = left-refused g.F.Forcer.forces (prime_of c.args.m.now) (base_of c.args.m.now) (fibre_of c.args.m.now) (values_of c.args.m.now) c.args.first c.args.n c.args.c.now.terms (numbers c.loop-left.sum.items) c.loop-left.term.terms c.loop-left.left c.args.forcer.now c.loop-left.forcer c.loop-left-test.true c.loop-left.invariant.stage c.in-Over.over (found-over (formal_tensors (prime_of c.args.m.now) (base_of c.args.m.now) (fibre_of c.args.m.now)) (prime_of c.args.m.now) (step_asked c.args.m.now c.args.first c.args.n c.loop-left.term.terms) _ c.in-Over.over c.in-Over.is c.in_ok-over.ensures.found)
 
-pub collect-requires-clause-elements : goal.collect-requires-clause-elements
-collect-requires-clause-elements g c = subst (λ r. All (λ t. t.1.value < number r) c.loop-left.sum.items) (sym c.loop-left.invariant.prime) c.loop-left.invariant.elements
+pub collect-requires : goal.collect-requires
+collect-requires g c = record { elements = subst (λ r. All (λ t. t.1.value < number r) c.loop-left.sum.items) (sym c.loop-left.invariant.prime) c.loop-left.invariant.elements }
 
 pub returns-in_err-collect-clause-asked : goal.returns-in_err-collect-clause-asked
 returns-in_err-collect-clause-asked g c = left-asked g.F.Forcer.forces (prime_of c.args.m.now) (base_of c.args.m.now) (fibre_of c.args.m.now) (values_of c.args.m.now) c.args.first c.args.n c.args.c.now.terms (numbers c.loop-left.sum.items) c.loop-left.term.terms c.loop-left.left c.args.forcer.now c.loop-left.forcer c.loop-left-test.true c.loop-left.invariant.stage c.step.new.forcer c.step.ensures.asked
 
-pub reach_after-requires-clause-room : goal.reach_after-requires-clause-room
-reach_after-requires-clause-room g c = let u = (room-now c.loop-left.left c.loop-left.reach (((top_of c.args.first c.args.n) + 2) * growth (values_of c.args.m.now)) (series_room (values_of c.args.m.now) (top_of c.args.first c.args.n) c.args.most) c.loop-left-test.true c.loop-left.invariant.fits) in subst (λ k. room (values_of c.args.m.now) k c.loop-left.reach ≤ 2 ^ 40) (sym c.top.ensures) (omega (arith, u, c.requires.room))
+pub reach_after-reach-requires-clause-room : goal.reach_after-reach-requires-clause-room
+reach_after-reach-requires-clause-room g c = let u = (room-now c.loop-left.left c.loop-left.reach (((top_of c.args.first c.args.n) + 2) * growth (values_of c.args.m.now)) (series_room (values_of c.args.m.now) (top_of c.args.first c.args.n) c.args.most) c.loop-left-test.true c.loop-left.invariant.fits) in subst (λ k. room (values_of c.args.m.now) k c.loop-left.reach ≤ 2 ^ 40) (sym c.top.ensures) (omega (arith, u, c.requires.room))
 
 pub loop-left-preserved : goal.loop-left-preserved
 loop-left-preserved g c = record {
-  prime = c.negated.ensures.prime ∙ ap (λ (d : Formal (CodeTensor Cell Cell)). d.prime) (found-value (formal_tensors (prime_of c.args.m.now) (base_of c.args.m.now) (fibre_of c.args.m.now)) (prime_of c.args.m.now) (step_asked c.args.m.now c.args.first c.args.n c.loop-left.term.terms) _ c.in-Value.next c.in-Value.is c.in_ok-over.ensures.found);
+  prime = c.negated-term.ensures.prime ∙ ap (λ (d : Formal (CodeTensor Cell Cell)). d.prime) (found-value (formal_tensors (prime_of c.args.m.now) (base_of c.args.m.now) (fibre_of c.args.m.now)) (prime_of c.args.m.now) (step_asked c.args.m.now c.args.first c.args.n c.loop-left.term.terms) _ c.in-Value.next c.in-Value.is c.in_ok-over.ensures.found);
   elements = subst (λ r. All (λ t. t.1.value < number r) c.collect.new.terms.items) c.loop-left.invariant.prime c.in_ok-collect.ensures.elements;
   stands =
       subst (Each (IsTensorIn c.args.m.now (series_room (values_of c.args.m.now) (top_of c.args.first c.args.n) c.args.most) c.args.n)) (sym c.in_ok-collect.ensures.sum)
       (each-append (IsTensorIn c.args.m.now (series_room (values_of c.args.m.now) (top_of c.args.first c.args.n) c.args.most) c.args.n) (numbers c.loop-left.sum.items) c.loop-left.term.terms c.loop-left.invariant.stands
       (within-wider (base_of c.args.m.now) (fibre_of c.args.m.now) c.loop-left.reach (series_room (values_of c.args.m.now) (top_of c.args.first c.args.n) c.args.most) c.args.n (omega (arith, (room-now c.loop-left.left c.loop-left.reach (((top_of c.args.first c.args.n) + 2) * growth (values_of c.args.m.now)) (series_room (values_of c.args.m.now) (top_of c.args.first c.args.n) c.args.most) c.loop-left-test.true c.loop-left.invariant.fits))) c.loop-left.term.terms (c.loop-left.invariant.next c.loop-left-test.true)));
   next = λ l.
-      subst (λ (z : ℕ × ℕ). Each (IsTensorIn c.args.m.now z.0 z.1) c.negated.result.terms) (λ i. (sym (c.reach_after.ensures ∙ ap (λ k. room (values_of c.args.m.now) k c.loop-left.reach) c.top.ensures) i, end-same c.args.first c.args.n (c.loop-left.left - 1) l (omega (arith, c.loop-left.invariant.few)) i))
-      (minus-within (prime_of c.args.m.now) (base_of c.args.m.now) (fibre_of c.args.m.now) c.requires.parts.base_built c.requires.parts.fibre_built (values_of c.args.m.now) (room (values_of c.args.m.now) (top_of c.args.first c.args.n) c.loop-left.reach) (end_of c.args.first c.args.n) (value_of (prime_of c.args.m.now) (step_asked c.args.m.now c.args.first c.args.n c.loop-left.term.terms)) c.in-Value.next c.negated.result (found-value (formal_tensors (prime_of c.args.m.now) (base_of c.args.m.now) (fibre_of c.args.m.now)) (prime_of c.args.m.now) (step_asked c.args.m.now c.args.first c.args.n c.loop-left.term.terms) _ c.in-Value.next c.in-Value.is c.in_ok-over.ensures.found) (if_found (IsStepOf c.args.m.now c.args.first c.args.n c.loop-left.term.terms) _ c.in-Value.next c.in-Value.is c.in_ok-over.ensures.back) (if_found (EachIn (IsTensorIn c.args.m.now (room (values_of c.args.m.now) (top_of c.args.first c.args.n) c.loop-left.reach) (end_of c.args.first c.args.n))) _ c.in-Value.next c.in-Value.is c.in_ok-over.ensures.tensors) c.negated.ensures.terms);
-  far = let e = (c.reach_after.ensures ∙ ap (λ k. room (values_of c.args.m.now) k c.loop-left.reach) c.top.ensures) in omega (arith, e, c.loop-left.invariant.far);
+      subst (λ (z : ℕ × ℕ). Each (IsTensorIn c.args.m.now z.0 z.1) c.negated-term.result.terms) (λ i. (sym (c.reach_after-reach.ensures ∙ ap (λ k. room (values_of c.args.m.now) k c.loop-left.reach) c.top.ensures) i, end-same c.args.first c.args.n (c.loop-left.left - 1) l (omega (arith, c.loop-left.invariant.few)) i))
+      (minus-within (prime_of c.args.m.now) (base_of c.args.m.now) (fibre_of c.args.m.now) c.requires.parts.base_built c.requires.parts.fibre_built (values_of c.args.m.now) (room (values_of c.args.m.now) (top_of c.args.first c.args.n) c.loop-left.reach) (end_of c.args.first c.args.n) (value_of (prime_of c.args.m.now) (step_asked c.args.m.now c.args.first c.args.n c.loop-left.term.terms)) c.in-Value.next c.negated-term.result (found-value (formal_tensors (prime_of c.args.m.now) (base_of c.args.m.now) (fibre_of c.args.m.now)) (prime_of c.args.m.now) (step_asked c.args.m.now c.args.first c.args.n c.loop-left.term.terms) _ c.in-Value.next c.in-Value.is c.in_ok-over.ensures.found) (if_found (IsStepOf c.args.m.now c.args.first c.args.n c.loop-left.term.terms) _ c.in-Value.next c.in-Value.is c.in_ok-over.ensures.back) (if_found (EachIn (IsTensorIn c.args.m.now (room (values_of c.args.m.now) (top_of c.args.first c.args.n) c.loop-left.reach) (end_of c.args.first c.args.n))) _ c.in-Value.next c.in-Value.is c.in_ok-over.ensures.tensors) c.negated-term.ensures.terms);
+  far = let e = (c.reach_after-reach.ensures ∙ ap (λ k. room (values_of c.args.m.now) k c.loop-left.reach) c.top.ensures) in omega (arith, e, c.loop-left.invariant.far);
   few = omega (arith, c.loop-left.invariant.few);
-  fits = subst (λ k. k + (c.loop-left.left - 1) * (((top_of c.args.first c.args.n) + 2) * growth (values_of c.args.m.now)) ≤ (series_room (values_of c.args.m.now) (top_of c.args.first c.args.n) c.args.most)) (sym (c.reach_after.ensures ∙ ap (λ k. room (values_of c.args.m.now) k c.loop-left.reach) c.top.ensures)) (room-next c.loop-left.left c.loop-left.reach (((top_of c.args.first c.args.n) + 2) * growth (values_of c.args.m.now)) (series_room (values_of c.args.m.now) (top_of c.args.first c.args.n) c.args.most) c.loop-left-test.true c.loop-left.invariant.fits);
-  stage = left-next g.F.Forcer.forces (prime_of c.args.m.now) (base_of c.args.m.now) (fibre_of c.args.m.now) (values_of c.args.m.now) c.args.first c.args.n c.args.c.now.terms (numbers c.loop-left.sum.items) c.loop-left.term.terms c.loop-left.left c.args.forcer.now c.loop-left.forcer c.loop-left-test.true c.loop-left.invariant.stage (numbers c.collect.new.terms.items) c.negated.result.terms c.step.new.forcer c.in_ok-collect.ensures.sum (minus-read (prime_of c.args.m.now) (base_of c.args.m.now) (fibre_of c.args.m.now) c.requires.parts.base_built c.requires.parts.fibre_built (values_of c.args.m.now) (room (values_of c.args.m.now) (top_of c.args.first c.args.n) c.loop-left.reach) (end_of c.args.first c.args.n) (value_of (prime_of c.args.m.now) (step_asked c.args.m.now c.args.first c.args.n c.loop-left.term.terms)) c.in-Value.next c.negated.result (found-value (formal_tensors (prime_of c.args.m.now) (base_of c.args.m.now) (fibre_of c.args.m.now)) (prime_of c.args.m.now) (step_asked c.args.m.now c.args.first c.args.n c.loop-left.term.terms) _ c.in-Value.next c.in-Value.is c.in_ok-over.ensures.found) (if_found (IsStepOf c.args.m.now c.args.first c.args.n c.loop-left.term.terms) _ c.in-Value.next c.in-Value.is c.in_ok-over.ensures.back) (if_found (EachIn (IsTensorIn c.args.m.now (room (values_of c.args.m.now) (top_of c.args.first c.args.n) c.loop-left.reach) (end_of c.args.first c.args.n))) _ c.in-Value.next c.in-Value.is c.in_ok-over.ensures.tensors) c.negated.ensures.terms) (found-none (formal_tensors (prime_of c.args.m.now) (base_of c.args.m.now) (fibre_of c.args.m.now)) (prime_of c.args.m.now) (step_asked c.args.m.now c.args.first c.args.n c.loop-left.term.terms) _ c.in-Value.next c.in-Value.is c.in_ok-over.ensures.found) c.in_ok-over.ensures.through;
+  fits = subst (λ k. k + (c.loop-left.left - 1) * (((top_of c.args.first c.args.n) + 2) * growth (values_of c.args.m.now)) ≤ (series_room (values_of c.args.m.now) (top_of c.args.first c.args.n) c.args.most)) (sym (c.reach_after-reach.ensures ∙ ap (λ k. room (values_of c.args.m.now) k c.loop-left.reach) c.top.ensures)) (room-next c.loop-left.left c.loop-left.reach (((top_of c.args.first c.args.n) + 2) * growth (values_of c.args.m.now)) (series_room (values_of c.args.m.now) (top_of c.args.first c.args.n) c.args.most) c.loop-left-test.true c.loop-left.invariant.fits);
+  stage = left-next g.F.Forcer.forces (prime_of c.args.m.now) (base_of c.args.m.now) (fibre_of c.args.m.now) (values_of c.args.m.now) c.args.first c.args.n c.args.c.now.terms (numbers c.loop-left.sum.items) c.loop-left.term.terms c.loop-left.left c.args.forcer.now c.loop-left.forcer c.loop-left-test.true c.loop-left.invariant.stage (numbers c.collect.new.terms.items) c.negated-term.result.terms c.step.new.forcer c.in_ok-collect.ensures.sum (minus-read (prime_of c.args.m.now) (base_of c.args.m.now) (fibre_of c.args.m.now) c.requires.parts.base_built c.requires.parts.fibre_built (values_of c.args.m.now) (room (values_of c.args.m.now) (top_of c.args.first c.args.n) c.loop-left.reach) (end_of c.args.first c.args.n) (value_of (prime_of c.args.m.now) (step_asked c.args.m.now c.args.first c.args.n c.loop-left.term.terms)) c.in-Value.next c.negated-term.result (found-value (formal_tensors (prime_of c.args.m.now) (base_of c.args.m.now) (fibre_of c.args.m.now)) (prime_of c.args.m.now) (step_asked c.args.m.now c.args.first c.args.n c.loop-left.term.terms) _ c.in-Value.next c.in-Value.is c.in_ok-over.ensures.found) (if_found (IsStepOf c.args.m.now c.args.first c.args.n c.loop-left.term.terms) _ c.in-Value.next c.in-Value.is c.in_ok-over.ensures.back) (if_found (EachIn (IsTensorIn c.args.m.now (room (values_of c.args.m.now) (top_of c.args.first c.args.n) c.loop-left.reach) (end_of c.args.first c.args.n))) _ c.in-Value.next c.in-Value.is c.in_ok-over.ensures.tensors) c.negated-term.ensures.terms) (found-none (formal_tensors (prime_of c.args.m.now) (base_of c.args.m.now) (fibre_of c.args.m.now)) (prime_of c.args.m.now) (step_asked c.args.m.now c.args.first c.args.n c.loop-left.term.terms) _ c.in-Value.next c.in-Value.is c.in_ok-over.ensures.found) c.in_ok-over.ensures.through;
 }
 
 pub from_terms-requires-clause-one_key : goal.from_terms-requires-clause-one_key
