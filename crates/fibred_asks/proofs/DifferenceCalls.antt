@@ -1,11 +1,8 @@
 -- The difference is asked for with spaces, values and a prime that equal those of the parts.
-use Rattle.std.proofs.Common.{◌≡◌, ℕ, ◌-◌, ◌≤◌, ◌^◌, List, Option, ℤ, sym, subst}
-use Rattle.std.proofs.lemmas.Result.{IfOk-weaker}
-use Rattle.std.specs.Prelude.{Result, IfOk}
+use Rattle.std.proofs.Common.{◌≡◌, ℕ, ◌≤◌, ◌^◌, List, Option, ℤ, sym, subst}
 use Rattle.fp_field.specs.declared.prime.Prime.{Prime}
 use Rattle.fp_field.specs.Field.{number}
 use Rattle.fp_field.specs.Chains.{Terms, Each}
-use Rattle.chain_core.specs.Formal.{Formal}
 use Rattle.spaces.specs.Spaces.{Space}
 use Rattle.cells.specs.declared.cells.Cell.{Cell}
 use Rattle.tensor_red.specs.declared.tensors.Tensor.{Tensor}

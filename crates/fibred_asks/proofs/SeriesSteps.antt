@@ -30,7 +30,7 @@ use Rattle.fibred_asks.specs.declared.steps.First.TheVariants.{Difference, Homot
 use Rattle.fibred_asks.specs.Parts.{AreParts, IfFound}
 use Rattle.fibred_asks.specs.Seconds.{h_on}
 use Rattle.fibred_asks.specs.Steps.{step_on}
-use Rattle.fibred_asks.proofs.TensorKeys.{difference-keys, from-code, reads-back}
+use Rattle.fibred_asks.proofs.TensorKeys.{difference-keys, reads-back}
 use Rattle.fibred_asks.proofs.ShownTensors.{shown-read, homotopy-shown}
 
 pub next_is : (n : ℕ) → n + 1 ≡ suc n

@@ -5,7 +5,6 @@ use Rattle.fp_field.specs.Field.{number, sign}
 use Rattle.fp_field.specs.Chains.{Terms, Each, scale, extend}
 use Rattle.fp_field.specs.Reduction.{one}
 use Rattle.spaces.specs.Spaces.{Space, Plain}
-use Rattle.spaces.specs.SmallCells.{Small}
 use Rattle.spaces.specs.Orders.{ordered}
 use Rattle.spaces.specs.EilenbergZilber.{Pair, Tensor, linear, tensor_order}
 use Rattle.values.specs.Asks.{Ask, Answers, Right, Cell as GradedCell, ask, gives, ◌>>=◌, f as f_of, h as h_of, asked_with}

@@ -1,21 +1,18 @@
-use Rattle.std.proofs.Common.{◌≡◌, ℕ, suc, ◌+◌, ◌*◌, ◌-◌, ◌<◌, ◌≤◌, ◌^◌, ◌++◌, [], All, refl, sym, ◌∙◌, ap, subst, arith}
+use Rattle.std.proofs.Common.{◌≡◌, ℕ, suc, ◌+◌, ◌*◌, ◌-◌, ◌<◌, ◌≤◌, ◌^◌, [], All, sym, ◌∙◌, ap, subst, arith}
 use Rattle.std.proofs.lemmas.List.Elements.{All-same}
 use Rattle.fp_field.specs.Field.{number}
-use Rattle.fp_field.specs.Chains.{Terms, Each}
-use Rattle.fp_field.specs.Normal.{normal}
+use Rattle.fp_field.specs.Chains.{Each}
 use Rattle.chain_core.specs.Formal.{Formal, numbers}
 use Rattle.cells.specs.declared.cells.Cell.{Cell}
-use Rattle.cells.proofs.OneKey.{one_cell}
 use Rattle.ez_maps.specs.Tensors.{tensor_cmp}
 use Rattle.ez_maps.specs.TensorOrder.{one_tensor}
 use Rattle.tensor_red.specs.declared.tensors.Tensor.{Tensor as CodeTensor}
-use Rattle.twist_chains.specs.Fibred.{read_tensors, room, growth}
+use Rattle.twist_chains.specs.Fibred.{room, growth}
 use Rattle.oracle_iface.proofs.CarriedChains.{each-normal}
 use Rattle.homology_rules.proofs.Quoted.{each-append}
 use Rattle.part_asks.specs.Askers.{formal_tensors}
 use Rattle.part_asks.specs.Reading.{keys_of, value_of}
 use Rattle.part_asks.proofs.Reached.{asked-nothing}
-use Rattle.part_asks.proofs.RightStages.{stage-asked}
 use Rattle.part_asks.proofs.Readings.{found-none, found-value, found-over}
 use Rattle.fibred_asks.specs.Parts.{EachIn}
 use Rattle.fibred_asks.specs.Seconds.{series_room}
@@ -23,14 +20,14 @@ use Rattle.fibred_asks.specs.Asked.{prime_of, base_of, fibre_of, values_of, IsTe
 use Rattle.fibred_asks.specs.Steps.{top_of, end_of, step_asked, series_asked, IsStepOf}
 use Rattle.fibred_asks.proofs.SeriesSteps.{if_found}
 use Rattle.fibred_asks.proofs.TensorKeys.{within-wider}
-use Rattle.fibred_asks.proofs.SeriesRounds.{top-above, end-same, room-start, room-now, room-next, left-start, left-may, left-valid, left-asked, left-refused, left-through, left-next, left-none, left-all, left-found, left-so_far, minus-read, minus-within}
+use Rattle.fibred_asks.proofs.SeriesRounds.{end-same, room-start, room-now, room-fits, room-next, left-start, left-may, left-valid, left-asked, left-refused, left-through, left-next, left-none, left-all, left-found, left-so_far, minus-read, minus-within}
 use Rattle.fibred_asks.proofs.series.series_by.Goals as goal
 
 pub returns-in_err-term-clause-asked : goal.returns-in_err-term-clause-asked
 returns-in_err-term-clause-asked g c = asked-nothing g.F.Forcer.forces (keys_of (prime_of c.args.m.now) (series_asked c.args.m.now c.args.first c.args.n c.args.c.now.terms)) c.args.forcer.now
 
 pub loop-left-init : goal.loop-left-init
-loop-left-init g c = 
+loop-left-init g c =
     let is : c.in_ok-term.term ≡ c.args.c.now = c.in_ok-term.ensures.cases (λ x y e. λ i. record { left = e.0 i; right = e.1 i }) in
     record {
       prime = ap (λ (d : Formal (CodeTensor Cell Cell)). d.prime) is ∙ c.requires.prime;
@@ -40,41 +37,41 @@ loop-left-init g c =
       far = c.requires.reach;
       few = omega arith;
       fits = let e : c.args.n + 1 ≡ suc c.args.n = omega arith in subst (λ k. c.args.most + k * (((top_of c.args.first c.args.n) + 2) * growth (values_of c.args.m.now)) ≤ (series_room (values_of c.args.m.now) (top_of c.args.first c.args.n) c.args.most)) (sym e) (room-start c.args.first c.args.n c.args.most (((top_of c.args.first c.args.n) + 2) * growth (values_of c.args.m.now)));
-      stage = left-start g.F.Forcer.forces (prime_of c.args.m.now) (base_of c.args.m.now) (fibre_of c.args.m.now) (values_of c.args.m.now) c.args.first c.args.n c.args.c.now.terms (numbers c.new-sum.result.items) c.in_ok-term.term.terms (c.args.n + 1) c.args.forcer.now (ap numbers c.new-sum.ensures.items) (let e : c.args.n + 1 ≡ suc c.args.n = omega arith in e) (ap (λ (d : Formal (CodeTensor Cell Cell)). d.terms) is) c.requires.valid;
+      stage = left-start (prime_of c.args.m.now) (base_of c.args.m.now) (fibre_of c.args.m.now) (values_of c.args.m.now) c.args.first c.args.n g.F.Forcer.forces c.args.c.now.terms (numbers c.new-sum.result.items) c.in_ok-term.term.terms (c.args.n + 1) c.args.forcer.now (ap numbers c.new-sum.ensures.items) (let e : c.args.n + 1 ≡ suc c.args.n = omega arith in e) (ap (λ (d : Formal (CodeTensor Cell Cell)). d.terms) is) c.requires.valid;
     }
 
 pub step-requires-clause-room : goal.step-requires-clause-room
-step-requires-clause-room g c = let u = (room-now c.loop-left.left c.loop-left.reach (((top_of c.args.first c.args.n) + 2) * growth (values_of c.args.m.now)) (series_room (values_of c.args.m.now) (top_of c.args.first c.args.n) c.args.most) c.loop-left-test.true c.loop-left.invariant.fits) in omega (arith, u, c.requires.room)
+step-requires-clause-room g c = room-fits c.loop-left.left c.loop-left.reach (((top_of c.args.first c.args.n) + 2) * growth (values_of c.args.m.now)) (series_room (values_of c.args.m.now) (top_of c.args.first c.args.n) c.args.most) c.loop-left-test.true c.loop-left.invariant.fits c.requires.room
 
 pub step-requires-clause-tensors : goal.step-requires-clause-tensors
 step-requires-clause-tensors g c = c.loop-left.invariant.next c.loop-left-test.true
 
 pub step-requires-clause-valid : goal.step-requires-clause-valid
-step-requires-clause-valid g c = left-valid g.F.Forcer.forces (prime_of c.args.m.now) (base_of c.args.m.now) (fibre_of c.args.m.now) (values_of c.args.m.now) c.args.first c.args.n c.args.c.now.terms (numbers c.loop-left.sum.items) c.loop-left.term.terms c.loop-left.left c.args.forcer.now c.loop-left.forcer c.loop-left-test.true c.loop-left.invariant.stage
+step-requires-clause-valid g c = left-valid c.loop-left.invariant.stage c.loop-left-test.true
 
 pub step-requires-clause-asks : goal.step-requires-clause-asks
-step-requires-clause-asks g c = left-may g.F.Forcer.forces (prime_of c.args.m.now) (base_of c.args.m.now) (fibre_of c.args.m.now) (values_of c.args.m.now) c.args.first c.args.n c.args.c.now.terms (numbers c.loop-left.sum.items) c.loop-left.term.terms c.loop-left.left c.args.forcer.now c.loop-left.forcer c.loop-left-test.true c.loop-left.invariant.stage g.F.Forcer.may_force c.requires.asks
+step-requires-clause-asks g c = left-may c.loop-left.invariant.stage c.loop-left-test.true g.F.Forcer.may_force c.requires.asks
 
 pub returns-in_err-over-clause-asked : goal.returns-in_err-over-clause-asked
-returns-in_err-over-clause-asked g c = left-asked g.F.Forcer.forces (prime_of c.args.m.now) (base_of c.args.m.now) (fibre_of c.args.m.now) (values_of c.args.m.now) c.args.first c.args.n c.args.c.now.terms (numbers c.loop-left.sum.items) c.loop-left.term.terms c.loop-left.left c.args.forcer.now c.loop-left.forcer c.loop-left-test.true c.loop-left.invariant.stage c.step.new.forcer c.step.ensures.asked
+returns-in_err-over-clause-asked g c = left-asked c.loop-left.invariant.stage c.loop-left-test.true c.step.new.forcer c.step.ensures.asked
 
 pub returns-in-Over-clause-asked : goal.returns-in-Over-clause-asked
-returns-in-Over-clause-asked g c = left-asked g.F.Forcer.forces (prime_of c.args.m.now) (base_of c.args.m.now) (fibre_of c.args.m.now) (values_of c.args.m.now) c.args.first c.args.n c.args.c.now.terms (numbers c.loop-left.sum.items) c.loop-left.term.terms c.loop-left.left c.args.forcer.now c.loop-left.forcer c.loop-left-test.true c.loop-left.invariant.stage c.step.new.forcer c.step.ensures.asked
+returns-in-Over-clause-asked g c = left-asked c.loop-left.invariant.stage c.loop-left-test.true c.step.new.forcer c.step.ensures.asked
 
 pub returns-in-Over-clause-through : goal.returns-in-Over-clause-through
-returns-in-Over-clause-through g c = left-through g.F.Forcer.forces (prime_of c.args.m.now) (base_of c.args.m.now) (fibre_of c.args.m.now) (values_of c.args.m.now) c.args.first c.args.n c.args.c.now.terms (numbers c.loop-left.sum.items) c.loop-left.term.terms c.loop-left.left c.args.forcer.now c.loop-left.forcer c.loop-left-test.true c.loop-left.invariant.stage c.step.new.forcer c.in-Over.over (found-over (formal_tensors (prime_of c.args.m.now) (base_of c.args.m.now) (fibre_of c.args.m.now)) (prime_of c.args.m.now) (step_asked c.args.m.now c.args.first c.args.n c.loop-left.term.terms) _ c.in-Over.over c.in-Over.is c.in_ok-over.ensures.found) c.in_ok-over.ensures.through
+returns-in-Over-clause-through g c = left-through c.loop-left.invariant.stage c.loop-left-test.true c.step.new.forcer c.in-Over.over (found-over (formal_tensors (prime_of c.args.m.now) (base_of c.args.m.now) (fibre_of c.args.m.now)) (prime_of c.args.m.now) (step_asked c.args.m.now c.args.first c.args.n c.loop-left.term.terms) _ c.in-Over.over c.in-Over.is c.in_ok-over.ensures.found) c.in_ok-over.ensures.through
 
 pub returns-in-Over-clause-found : goal.returns-in-Over-clause-found
-returns-in-Over-clause-found g c = left-refused g.F.Forcer.forces (prime_of c.args.m.now) (base_of c.args.m.now) (fibre_of c.args.m.now) (values_of c.args.m.now) c.args.first c.args.n c.args.c.now.terms (numbers c.loop-left.sum.items) c.loop-left.term.terms c.loop-left.left c.args.forcer.now c.loop-left.forcer c.loop-left-test.true c.loop-left.invariant.stage c.in-Over.over (found-over (formal_tensors (prime_of c.args.m.now) (base_of c.args.m.now) (fibre_of c.args.m.now)) (prime_of c.args.m.now) (step_asked c.args.m.now c.args.first c.args.n c.loop-left.term.terms) _ c.in-Over.over c.in-Over.is c.in_ok-over.ensures.found)
+returns-in-Over-clause-found g c = left-refused c.loop-left.invariant.stage c.loop-left-test.true c.in-Over.over (found-over (formal_tensors (prime_of c.args.m.now) (base_of c.args.m.now) (fibre_of c.args.m.now)) (prime_of c.args.m.now) (step_asked c.args.m.now c.args.first c.args.n c.loop-left.term.terms) _ c.in-Over.over c.in-Over.is c.in_ok-over.ensures.found)
 
 pub collect-requires : goal.collect-requires
 collect-requires g c = record { elements = subst (λ r. All (λ t. t.1.value < number r) c.loop-left.sum.items) (sym c.loop-left.invariant.prime) c.loop-left.invariant.elements }
 
 pub returns-in_err-collect-clause-asked : goal.returns-in_err-collect-clause-asked
-returns-in_err-collect-clause-asked g c = left-asked g.F.Forcer.forces (prime_of c.args.m.now) (base_of c.args.m.now) (fibre_of c.args.m.now) (values_of c.args.m.now) c.args.first c.args.n c.args.c.now.terms (numbers c.loop-left.sum.items) c.loop-left.term.terms c.loop-left.left c.args.forcer.now c.loop-left.forcer c.loop-left-test.true c.loop-left.invariant.stage c.step.new.forcer c.step.ensures.asked
+returns-in_err-collect-clause-asked g c = left-asked c.loop-left.invariant.stage c.loop-left-test.true c.step.new.forcer c.step.ensures.asked
 
 pub reach_after-reach-requires-clause-room : goal.reach_after-reach-requires-clause-room
-reach_after-reach-requires-clause-room g c = let u = (room-now c.loop-left.left c.loop-left.reach (((top_of c.args.first c.args.n) + 2) * growth (values_of c.args.m.now)) (series_room (values_of c.args.m.now) (top_of c.args.first c.args.n) c.args.most) c.loop-left-test.true c.loop-left.invariant.fits) in subst (λ k. room (values_of c.args.m.now) k c.loop-left.reach ≤ 2 ^ 40) (sym c.top.ensures) (omega (arith, u, c.requires.room))
+reach_after-reach-requires-clause-room g c = subst (λ k. room (values_of c.args.m.now) k c.loop-left.reach ≤ 2 ^ 40) (sym c.top.ensures) (room-fits c.loop-left.left c.loop-left.reach (((top_of c.args.first c.args.n) + 2) * growth (values_of c.args.m.now)) (series_room (values_of c.args.m.now) (top_of c.args.first c.args.n) c.args.most) c.loop-left-test.true c.loop-left.invariant.fits c.requires.room)
 
 pub loop-left-preserved : goal.loop-left-preserved
 loop-left-preserved g c = record {
@@ -90,23 +87,23 @@ loop-left-preserved g c = record {
   far = let e = (c.reach_after-reach.ensures ∙ ap (λ k. room (values_of c.args.m.now) k c.loop-left.reach) c.top.ensures) in omega (arith, e, c.loop-left.invariant.far);
   few = omega (arith, c.loop-left.invariant.few);
   fits = subst (λ k. k + (c.loop-left.left - 1) * (((top_of c.args.first c.args.n) + 2) * growth (values_of c.args.m.now)) ≤ (series_room (values_of c.args.m.now) (top_of c.args.first c.args.n) c.args.most)) (sym (c.reach_after-reach.ensures ∙ ap (λ k. room (values_of c.args.m.now) k c.loop-left.reach) c.top.ensures)) (room-next c.loop-left.left c.loop-left.reach (((top_of c.args.first c.args.n) + 2) * growth (values_of c.args.m.now)) (series_room (values_of c.args.m.now) (top_of c.args.first c.args.n) c.args.most) c.loop-left-test.true c.loop-left.invariant.fits);
-  stage = left-next g.F.Forcer.forces (prime_of c.args.m.now) (base_of c.args.m.now) (fibre_of c.args.m.now) (values_of c.args.m.now) c.args.first c.args.n c.args.c.now.terms (numbers c.loop-left.sum.items) c.loop-left.term.terms c.loop-left.left c.args.forcer.now c.loop-left.forcer c.loop-left-test.true c.loop-left.invariant.stage (numbers c.collect.new.terms.items) c.negated-term.result.terms c.step.new.forcer c.in_ok-collect.ensures.sum (minus-read (prime_of c.args.m.now) (base_of c.args.m.now) (fibre_of c.args.m.now) c.requires.parts.base_built c.requires.parts.fibre_built (values_of c.args.m.now) (room (values_of c.args.m.now) (top_of c.args.first c.args.n) c.loop-left.reach) (end_of c.args.first c.args.n) (value_of (prime_of c.args.m.now) (step_asked c.args.m.now c.args.first c.args.n c.loop-left.term.terms)) c.in-Value.next c.negated-term.result (found-value (formal_tensors (prime_of c.args.m.now) (base_of c.args.m.now) (fibre_of c.args.m.now)) (prime_of c.args.m.now) (step_asked c.args.m.now c.args.first c.args.n c.loop-left.term.terms) _ c.in-Value.next c.in-Value.is c.in_ok-over.ensures.found) (if_found (IsStepOf c.args.m.now c.args.first c.args.n c.loop-left.term.terms) _ c.in-Value.next c.in-Value.is c.in_ok-over.ensures.back) (if_found (EachIn (IsTensorIn c.args.m.now (room (values_of c.args.m.now) (top_of c.args.first c.args.n) c.loop-left.reach) (end_of c.args.first c.args.n))) _ c.in-Value.next c.in-Value.is c.in_ok-over.ensures.tensors) c.negated-term.ensures.terms) (found-none (formal_tensors (prime_of c.args.m.now) (base_of c.args.m.now) (fibre_of c.args.m.now)) (prime_of c.args.m.now) (step_asked c.args.m.now c.args.first c.args.n c.loop-left.term.terms) _ c.in-Value.next c.in-Value.is c.in_ok-over.ensures.found) c.in_ok-over.ensures.through;
+  stage = left-next c.loop-left.invariant.stage c.loop-left-test.true (numbers c.collect.new.terms.items) c.negated-term.result.terms c.step.new.forcer c.in_ok-collect.ensures.sum (minus-read (prime_of c.args.m.now) (base_of c.args.m.now) (fibre_of c.args.m.now) c.requires.parts.base_built c.requires.parts.fibre_built (values_of c.args.m.now) (room (values_of c.args.m.now) (top_of c.args.first c.args.n) c.loop-left.reach) (end_of c.args.first c.args.n) (value_of (prime_of c.args.m.now) (step_asked c.args.m.now c.args.first c.args.n c.loop-left.term.terms)) c.in-Value.next c.negated-term.result (found-value (formal_tensors (prime_of c.args.m.now) (base_of c.args.m.now) (fibre_of c.args.m.now)) (prime_of c.args.m.now) (step_asked c.args.m.now c.args.first c.args.n c.loop-left.term.terms) _ c.in-Value.next c.in-Value.is c.in_ok-over.ensures.found) (if_found (IsStepOf c.args.m.now c.args.first c.args.n c.loop-left.term.terms) _ c.in-Value.next c.in-Value.is c.in_ok-over.ensures.back) (if_found (EachIn (IsTensorIn c.args.m.now (room (values_of c.args.m.now) (top_of c.args.first c.args.n) c.loop-left.reach) (end_of c.args.first c.args.n))) _ c.in-Value.next c.in-Value.is c.in_ok-over.ensures.tensors) c.negated-term.ensures.terms) (found-none (formal_tensors (prime_of c.args.m.now) (base_of c.args.m.now) (fibre_of c.args.m.now)) (prime_of c.args.m.now) (step_asked c.args.m.now c.args.first c.args.n c.loop-left.term.terms) _ c.in-Value.next c.in-Value.is c.in_ok-over.ensures.found) c.in_ok-over.ensures.through;
 }
 
 pub from_terms-requires-clause-one_key : goal.from_terms-requires-clause-one_key
 from_terms-requires-clause-one_key g c = one_tensor
 
 pub returns-in_err-from_terms-clause-asked : goal.returns-in_err-from_terms-clause-asked
-returns-in_err-from_terms-clause-asked g c = left-so_far g.F.Forcer.forces (prime_of c.args.m.now) (base_of c.args.m.now) (fibre_of c.args.m.now) (values_of c.args.m.now) c.args.first c.args.n c.args.c.now.terms (numbers c.loop-left.sum.items) c.loop-left.term.terms c.loop-left.left c.args.forcer.now c.loop-left.forcer c.loop-left.invariant.stage
+returns-in_err-from_terms-clause-asked g c = left-so_far c.loop-left.invariant.stage
 
 pub returns-clause-asked : goal.returns-clause-asked
-returns-clause-asked g c = left-so_far g.F.Forcer.forces (prime_of c.args.m.now) (base_of c.args.m.now) (fibre_of c.args.m.now) (values_of c.args.m.now) c.args.first c.args.n c.args.c.now.terms (numbers c.loop-left.sum.items) c.loop-left.term.terms c.loop-left.left c.args.forcer.now c.loop-left.forcer c.loop-left.invariant.stage
+returns-clause-asked g c = left-so_far c.loop-left.invariant.stage
 
 pub returns-clause-through : goal.returns-clause-through
-returns-clause-through g c = left-all g.F.Forcer.forces (prime_of c.args.m.now) (base_of c.args.m.now) (fibre_of c.args.m.now) (values_of c.args.m.now) c.args.first c.args.n c.args.c.now.terms (numbers c.loop-left.sum.items) c.loop-left.term.terms c.loop-left.left c.args.forcer.now c.loop-left.forcer (omega (arith, c.loop-left-test.false)) c.loop-left.invariant.stage
+returns-clause-through g c = left-all c.loop-left.invariant.stage (omega (arith, c.loop-left-test.false))
 
 pub returns-clause-found : goal.returns-clause-found
-returns-clause-found g c = (left-none g.F.Forcer.forces (prime_of c.args.m.now) (base_of c.args.m.now) (fibre_of c.args.m.now) (values_of c.args.m.now) c.args.first c.args.n c.args.c.now.terms (numbers c.loop-left.sum.items) c.loop-left.term.terms c.loop-left.left c.args.forcer.now c.loop-left.forcer (omega (arith, c.loop-left-test.false)) c.loop-left.invariant.stage, left-found g.F.Forcer.forces (prime_of c.args.m.now) (base_of c.args.m.now) (fibre_of c.args.m.now) (values_of c.args.m.now) c.args.first c.args.n c.args.c.now.terms (numbers c.loop-left.sum.items) c.loop-left.term.terms c.loop-left.left c.args.forcer.now c.loop-left.forcer (omega (arith, c.loop-left-test.false)) c.loop-left.invariant.stage c.requires.parts.base_built c.requires.parts.fibre_built (series_room (values_of c.args.m.now) (top_of c.args.first c.args.n) c.args.most) c.loop-left.invariant.stands c.in_ok-from_terms.field-0 c.in_ok-from_terms.ensures.prime c.in_ok-from_terms.ensures.sum)
+returns-clause-found g c = (left-none c.loop-left.invariant.stage (omega (arith, c.loop-left-test.false)), left-found c.loop-left.invariant.stage (omega (arith, c.loop-left-test.false)) c.requires.parts.base_built c.requires.parts.fibre_built (series_room (values_of c.args.m.now) (top_of c.args.first c.args.n) c.args.most) c.loop-left.invariant.stands c.in_ok-from_terms.field-0 c.in_ok-from_terms.ensures.prime c.in_ok-from_terms.ensures.sum)
 
 pub returns-clause-tensors : goal.returns-clause-tensors
 returns-clause-tensors g c = subst (Each (IsTensorIn c.args.m.now (series_room (values_of c.args.m.now) (top_of c.args.first c.args.n) c.args.most) c.args.n)) (sym c.in_ok-from_terms.ensures.sum) (each-normal tensor_cmp (number (prime_of c.args.m.now)) (IsTensorIn c.args.m.now (series_room (values_of c.args.m.now) (top_of c.args.first c.args.n) c.args.most) c.args.n) (numbers c.loop-left.sum.items) c.loop-left.invariant.stands)

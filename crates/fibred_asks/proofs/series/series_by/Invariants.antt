@@ -19,7 +19,7 @@ invariant-loop-left g l = record {
   far : limited_reach ≤ l.reach;
   few : l.left ≤ suc l.n;
   fits : l.reach + l.left * ((top_of l.first l.n + 2) * growth (values_of l.m)) ≤ series_room (values_of l.m) (top_of l.first l.n) l.most;
-  stage : Left g.F.Forcer.forces (prime_of l.m) (base_of l.m) (fibre_of l.m) (values_of l.m) l.first l.n l.c.terms (numbers l.sum.items) l.left l.term.terms l.initial.forcer l.forcer;
+  stage : Left (prime_of l.m) (base_of l.m) (fibre_of l.m) (values_of l.m) l.first l.n g.F.Forcer.forces l.c.terms (numbers l.sum.items) l.left l.term.terms l.initial.forcer l.forcer;
 }
 
 abbrev pub decreases-loop-left : goal.decreases-loop-left

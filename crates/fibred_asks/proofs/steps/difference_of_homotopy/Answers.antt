@@ -1,4 +1,4 @@
-use Rattle.std.proofs.Common.{◌≡◌, ℕ, suc, ◌+◌, ◌-◌, ◌≤◌, sym, ap, subst}
+use Rattle.std.proofs.Common.{ℕ, suc, ◌+◌, ◌≤◌, sym, ap, subst}
 use Rattle.fp_field.specs.Chains.{Each}
 use Rattle.chain_core.specs.Formal.{Formal}
 use Rattle.cells.specs.declared.cells.Cell.{Cell}

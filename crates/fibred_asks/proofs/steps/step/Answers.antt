@@ -2,7 +2,7 @@ use Rattle.std.proofs.Common.{IfOk, sym, subst}
 use Rattle.twist_chains.specs.Fibred.{room}
 use Rattle.fibred_asks.specs.declared.steps.First.{First}
 use Rattle.fibred_asks.specs.Parts.{IfFound, EachIn}
-use Rattle.fibred_asks.specs.Asked.{prime_of, base_of, fibre_of, values_of, IsTensorIn}
+use Rattle.fibred_asks.specs.Asked.{values_of, IsTensorIn}
 use Rattle.fibred_asks.specs.Steps.{top_of, end_of}
 use Rattle.fibred_asks.proofs.steps.step.Goals as goal
 
