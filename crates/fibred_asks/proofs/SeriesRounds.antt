@@ -24,7 +24,7 @@ use Rattle.homology_rules.specs.Asking.{first_refusal, up_to_refusal, MayForceEa
 use Rattle.homology_rules.proofs.Quoted.{carried-append}
 use Rattle.part_asks.specs.Along.{AsksValid}
 use Rattle.part_asks.specs.Askers.{formal_tensors}
-use Rattle.part_asks.specs.Reading.{keys_of, value_of}
+use Rattle.part_asks.specs.Reading.{keys_of, value_of, IsFound}
 use Rattle.part_asks.proofs.RightStages as R
 use Rattle.part_asks.proofs.SeriesLeft.{series_left, series-step, series-end}
 use Rattle.space_faces.specs.Built.{IsAllowedBuilt}
@@ -32,7 +32,14 @@ use Rattle.twist_chains.specs.Fibred.{read_tensors, quote_tensors, IsTensorWithi
 use Rattle.twist_chains.proofs.FirstTerms as T
 use Rattle.fibred_asks.specs.declared.steps.First.{First}
 use Rattle.fibred_asks.specs.declared.steps.First.TheVariants.{Difference, Homotopy}
-use Rattle.fibred_asks.specs.Steps.{top_of, end_of, step_on, series_on, minus_of}
+use Rattle.fibred_asks.specs.declared.maps.Maps.{Maps}
+use Rattle.fibred_asks.specs.Asked.{prime_of, base_of, fibre_of, values_of, IsTensorIn}
+use Rattle.fibred_asks.specs.Parts.{AreParts, IfFound, EachIn}
+use Rattle.fibred_asks.proofs.SeriesSteps.{if_found}
+use Rattle.part_asks.specs.declared.found.Found.{Found}
+use Rattle.part_asks.specs.declared.found.Found.TheVariants.{Value}
+use Rattle.part_asks.proofs.Readings.{found-value}
+use Rattle.fibred_asks.specs.Steps.{top_of, end_of, step_on, series_on, minus_of, step_asked, IsStepOf}
 use Rattle.fibred_asks.proofs.TensorKeys.{Key, reads-back, normal-quoted, minus-quoted, minus-keys}
 
 -- ---- numbers
@@ -65,14 +72,29 @@ room-next (suc k) m x t l h = let e : suc k - 1 ≡ k = omega arith in rw e (ome
 
 -- ---- the evaluation
 
-module _ (p : Prime) (a b : Space) (values : Option (List ℤ)) (first : First) (n : ℕ) where
+abbrev pub Plains : Maps → Type 0
+Plains maps = Terms (PlainTensor (Plain (base_of maps)) (Plain (fibre_of maps)))
+
+module _ (maps : Maps) (first : First) (n : ℕ) where
+  abbrev p : Prime
+  p = prime_of maps
+
+  abbrev a : Space
+  a = base_of maps
+
+  abbrev b : Space
+  b = fibre_of maps
+
+  abbrev values : Option (List ℤ)
+  values = values_of maps
+
   abbrev pub by : PlainTensor (Plain a) (Plain b) → PlainTensor (Plain a) (Plain b) → Ordering
   by = tensor_order (number p) (linear (ordered a)) (ordered b)
 
-  abbrev pub step : Terms (PlainTensor (Plain a) (Plain b)) → Right (Terms (PlainTensor (Plain a) (Plain b)))
+  abbrev pub step : Plains maps → Right (Plains maps)
   step e = step_on p a b values first n e
 
-  abbrev pub whole : Terms (Tensor Cell Cell) → Right (Terms (PlainTensor (Plain a) (Plain b)))
+  abbrev pub whole : Terms (Tensor Cell Cell) → Right (Plains maps)
   whole c0 = series_on p a b values first n (read_tensors a b c0)
 
   -- The series from the chain c0, begun in state s, has come to state t: these terms stand, k rounds are left, and c is the next term.
@@ -85,105 +107,118 @@ module _ (p : Prime) (a b : Space) (values : Option (List ℤ)) (first : First) 
       subst (λ (z : Terms (Tensor Cell Cell) × ℕ × Terms (Tensor Cell Cell)). Left calls c0 z.0 z.1 z.2 s s) (λ i. (sym d i, sym e i, sym f i))
       (let start : Left calls c0 [] (suc n) c0 s s = record { stage = R.stage-start calls p (whole c0) s v } in start)
 
-module _ {p : Prime} {a b : Space} {values : Option (List ℤ)} {first : First} {n : ℕ} {F : Type 0} {calls : Calls F} {c0 done : Terms (Tensor Cell Cell)} {k : ℕ}
-    {c : Terms (Tensor Cell Cell)} {s t : F} (left : Left p a b values first n calls c0 done k c s t) where
-  abbrev read : Terms (Tensor Cell Cell) → Terms (PlainTensor (Plain a) (Plain b))
-  read d = read_tensors a b d
+module _ {maps : Maps} {first : First} {n : ℕ} {F : Type 0} {calls : Calls F} {c0 done : Terms (Tensor Cell Cell)} {k : ℕ}
+    {c : Terms (Tensor Cell Cell)} {s t : F} (left : Left maps first n calls c0 done k c s t) where
+  abbrev read : Terms (Tensor Cell Cell) → Plains maps
+  read d = read_tensors (base_of maps) (fibre_of maps) d
 
-  abbrev all : Right (Terms (PlainTensor (Plain a) (Plain b)))
-  all = whole p a b values first n c0
+  abbrev all : Right (Plains maps)
+  all = whole maps first n c0
 
-  abbrev now : Right (Terms (PlainTensor (Plain a) (Plain b)))
-  now = step p a b values first n (read c)
+  abbrev now : Right (Plains maps)
+  now = step maps first n (read c)
 
-  abbrev after : Terms (PlainTensor (Plain a) (Plain b)) → ℕ → Terms (PlainTensor (Plain a) (Plain b)) → Right (Terms (PlainTensor (Plain a) (Plain b)))
-  after d i e = series_left (by p a b values first n) (number p) (step p a b values first n) d i e
+  abbrev after : Plains maps → ℕ → Plains maps → Right (Plains maps)
+  after d i e = series_left (by maps first n) (number (prime_of maps)) (step maps first n) d i e
 
-  pub left-so_far : AskedFirst calls (keys_of p all) s t
-  left-so_far = R.stage-asked calls p all (after (read done) k (read c)) s t left.stage
+  pub left-so_far : AskedFirst calls (keys_of (prime_of maps) all) s t
+  left-so_far = R.stage-asked calls (prime_of maps) all (after (read done) k (read c)) s t left.stage
 
   -- the next round
   module _ (l : 0 < k) where
-    abbrev rest : Terms (PlainTensor (Plain a) (Plain b)) → Right (Terms (PlainTensor (Plain a) (Plain b)))
-    rest y = after (read done ++ read c) (k - 1) (minus_of p a b values y)
+    abbrev rest : Plains maps → Right (Plains maps)
+    rest y = after (read done ++ read c) (k - 1) (minus_of (prime_of maps) (base_of maps) (fibre_of maps) (values_of maps) y)
 
-    opened : R.Stage calls p all (now >>= rest) s t
+    opened : R.Stage calls (prime_of maps) all (now >>= rest) s t
     opened =
-        subst (λ x. R.Stage calls p all x s t)
-        (series-step (by p a b values first n) (number p) (step p a b values first n) (read done) (k - 1) k (read c) (let e : k ≡ suc (k - 1) = omega (arith, l) in e)) left.stage
+        subst (λ x. R.Stage calls (prime_of maps) all x s t)
+        (series-step (by maps first n) (number (prime_of maps)) (step maps first n) (read done) (k - 1) k (read c) (let e : k ≡ suc (k - 1) = omega (arith, l) in e)) left.stage
 
-    pub left-may : (may : F → CodeKey → Type 0) → MayForceEach may calls s (keys_of p all) → MayForceEach may calls t (keys_of p now)
-    left-may may asks = R.may-next calls p all now rest s t opened may asks
+    pub left-may : (may : F → CodeKey → Type 0) → MayForceEach may calls s (keys_of (prime_of maps) all) → MayForceEach may calls t (keys_of (prime_of maps) now)
+    left-may may asks = R.may-next calls (prime_of maps) all now rest s t opened may asks
 
-    pub left-valid : AsksValid p now
-    left-valid = R.valid-next calls p all now rest s t opened
+    pub left-valid : AsksValid (prime_of maps) now
+    left-valid = R.valid-next calls (prime_of maps) all now rest s t opened
 
-    pub left-asked : (u : F) → AskedFirst calls (keys_of p now) t u → AskedFirst calls (keys_of p all) s u
-    left-asked u h = R.asked-next calls p all now rest s t opened u h
+    pub left-asked : (u : F) → AskedFirst calls (keys_of (prime_of maps) now) t u → AskedFirst calls (keys_of (prime_of maps) all) s u
+    left-asked u h = R.asked-next calls (prime_of maps) all now rest s t opened u h
 
-    pub left-refused : (w : Over) → first_refusal (keys_of p now) ≡ Some w → first_refusal (keys_of p all) ≡ Some w
-    left-refused w e = R.refused-whole calls p all now rest s t opened w e
+    pub left-refused : (w : Over) → first_refusal (keys_of (prime_of maps) now) ≡ Some w → first_refusal (keys_of (prime_of maps) all) ≡ Some w
+    left-refused w e = R.refused-whole calls (prime_of maps) all now rest s t opened w e
 
-    pub left-through : (u : F) (w : Over) → first_refusal (keys_of p now) ≡ Some w → EachAnswered calls t (up_to_refusal (keys_of p now)) u
-        → EachAnswered calls s (up_to_refusal (keys_of p all)) u
-    left-through u w e h = R.refused-through calls p all now rest s t opened u w e h
+    pub left-through : (u : F) (w : Over) → first_refusal (keys_of (prime_of maps) now) ≡ Some w → EachAnswered calls t (up_to_refusal (keys_of (prime_of maps) now)) u
+        → EachAnswered calls s (up_to_refusal (keys_of (prime_of maps) all)) u
+    left-through u w e h = R.refused-through calls (prime_of maps) all now rest s t opened u w e h
 
-    pub left-next : (more next : Terms (Tensor Cell Cell)) (u : F) → more ≡ done ++ c → read next ≡ minus_of p a b values (value_of p now)
-        → first_refusal (keys_of p now) ≡ None → EachAnswered calls t (up_to_refusal (keys_of p now)) u → Left p a b values first n calls c0 more (k - 1) next s u
+    pub left-next : (more next : Terms (Tensor Cell Cell)) (u : F) → more ≡ done ++ c → read next ≡ minus_of (prime_of maps) (base_of maps) (fibre_of maps) (values_of maps) (value_of (prime_of maps) now)
+        → first_refusal (keys_of (prime_of maps) now) ≡ None → EachAnswered calls t (up_to_refusal (keys_of (prime_of maps) now)) u → Left maps first n calls c0 more (k - 1) next s u
     left-next more next u d e none h =
-        let both : read more ≡ read done ++ read c = ap read d ∙ carried-append (tensor_form dim_of (λ s. form s a) (λ s. form s b)) done c in
+        let both : read more ≡ read done ++ read c = ap read d ∙ carried-append (tensor_form dim_of (λ s. form s (base_of maps)) (λ s. form s (fibre_of maps))) done c in
         record {
-          stage = subst (λ (z : Terms (PlainTensor (Plain a) (Plain b)) × Terms (PlainTensor (Plain a) (Plain b))). R.Stage calls p all (after z.0 (k - 1) z.1) s u)
-              (λ i. (sym both i, sym e i)) (R.stage-next calls p all now rest s t opened u none h);
+          stage = subst (λ (z : Plains maps × Plains maps). R.Stage calls (prime_of maps) all (after z.0 (k - 1) z.1) s u)
+              (λ i. (sym both i, sym e i)) (R.stage-next calls (prime_of maps) all now rest s t opened u none h);
         }
 
   -- the end
   module _ (end : k ≡ 0) where
-    abbrev sum : Terms (PlainTensor (Plain a) (Plain b))
-    sum = normal (by p a b values first n) (number p) (read done)
+    abbrev sum : Plains maps
+    sum = normal (by maps first n) (number (prime_of maps)) (read done)
 
-    ended : R.Stage calls p all (gives sum) s t
+    ended : R.Stage calls (prime_of maps) all (gives sum) s t
     ended =
-        subst (λ x. R.Stage calls p all x s t)
-        (ap (λ i. after (read done) i (read c)) end ∙ series-end (by p a b values first n) (number p) (step p a b values first n) (read done) (read c)) left.stage
+        subst (λ x. R.Stage calls (prime_of maps) all x s t)
+        (ap (λ i. after (read done) i (read c)) end ∙ series-end (by maps first n) (number (prime_of maps)) (step maps first n) (read done) (read c)) left.stage
 
-    pub left-none : first_refusal (keys_of p all) ≡ None
-    left-none = R.stage-none calls p all sum s t ended
+    pub left-none : first_refusal (keys_of (prime_of maps) all) ≡ None
+    left-none = R.stage-none calls (prime_of maps) all sum s t ended
 
-    pub left-all : EachAnswered calls s (up_to_refusal (keys_of p all)) t
-    left-all = R.stage-through calls p all sum s t ended
+    pub left-all : EachAnswered calls s (up_to_refusal (keys_of (prime_of maps) all)) t
+    left-all = R.stage-through calls (prime_of maps) all sum s t ended
 
     -- the sum of the terms
-    pub left-found : (ka : IsAllowedBuilt a) (kb : IsAllowedBuilt b) (m : ℕ) → Each (IsTensorWithin a b m n) done → (x : Formal (Tensor Cell Cell)) → x.prime ≡ p
-        → x.terms ≡ normal tensor_cmp (number p) done → x ≡ formal_tensors p a b (value_of p all)
+    pub left-found : (ka : IsAllowedBuilt (base_of maps)) (kb : IsAllowedBuilt (fibre_of maps)) (m : ℕ) → Each (IsTensorWithin (base_of maps) (fibre_of maps) m n) done → (x : Formal (Tensor Cell Cell)) → x.prime ≡ (prime_of maps)
+        → x.terms ≡ normal tensor_cmp (number (prime_of maps)) done → x ≡ formal_tensors (prime_of maps) (base_of maps) (fibre_of maps) (value_of (prime_of maps) all)
     left-found ka kb m h x prime terms = λ i. record { prime = prime i; terms = terms-are i }
       where
-        terms-are : x.terms ≡ quote_tensors a b (value_of p all)
+        terms-are : x.terms ≡ quote_tensors (base_of maps) (fibre_of maps) (value_of (prime_of maps) all)
         terms-are =
-            terms ∙ ap (normal tensor_cmp (number p)) (sym (T.tensors-back (number p) (number_pos p) a b ka kb m n done h))
-            ∙ normal-quoted (number p) (number_pos p) a b ka kb m n (read done) (T.tensors-read (number p) (number_pos p) a b ka kb m n done h)
-            ∙ ap (quote_tensors a b) (sym ended.value_is)
+            terms ∙ ap (normal tensor_cmp (number (prime_of maps))) (sym (T.tensors-back (number (prime_of maps)) (number_pos (prime_of maps)) (base_of maps) (fibre_of maps) ka kb m n done h))
+            ∙ normal-quoted (number (prime_of maps)) (number_pos (prime_of maps)) (base_of maps) (fibre_of maps) ka kb m n (read done) (T.tensors-read (number (prime_of maps)) (number_pos (prime_of maps)) (base_of maps) (fibre_of maps) ka kb m n done h)
+            ∙ ap (quote_tensors (base_of maps) (fibre_of maps)) (sym ended.value_is)
 
 -- ---- the next term
 
 -- minus a chain that was found
-module _ (p : Prime) (a b : Space) (ka : IsAllowedBuilt a) (kb : IsAllowedBuilt b) (values : Option (List ℤ)) (m n : ℕ) (y : Terms (PlainTensor (Plain a) (Plain b)))
-    (v x : Formal (Tensor Cell Cell)) (found : v ≡ formal_tensors p a b y) (back : read_tensors a b v.terms ≡ y) (within : Each (IsTensorWithin a b m n) v.terms)
-    (minus : x.terms ≡ normal tensor_cmp (number v.prime) (scale (number v.prime - 1) v.terms)) where
-  keys : Each (Key (number p) (number_pos p) a b ka kb m n) y
-  keys = subst (Each (Key (number p) (number_pos p) a b ka kb m n)) back (T.tensors-read (number p) (number_pos p) a b ka kb m n v.terms within)
+module _ (maps : Maps) where
+  module _ (parts : AreParts (prime_of maps) (base_of maps) (fibre_of maps)) (first : First) (n most d : ℕ) (c : Terms (Tensor Cell Cell)) (o : Found (Formal (Tensor Cell Cell))) (v x : Formal (Tensor Cell Cell))
+      (is : o ≡ Value v) (found : IsFound (formal_tensors (prime_of maps) (base_of maps) (fibre_of maps)) (prime_of maps) (step_asked maps first n c) o) (back : IfFound (IsStepOf maps first n c) o)
+      (within : IfFound (EachIn (IsTensorIn maps most d)) o) (prime : x.prime ≡ v.prime) (minus : x.terms ≡ normal tensor_cmp (number v.prime) (scale (number v.prime - 1) v.terms)) where
+    abbrev y : Plains maps
+    y = value_of (prime_of maps) (step_asked maps first n c)
 
-  is-quoted : x.terms ≡ quote_tensors a b (minus_of p a b values y)
-  is-quoted =
-      minus ∙ (λ i. normal tensor_cmp (number (found i).prime) (scale (number (found i).prime - 1) (found i).terms))
-      ∙ minus-quoted (number p) (number_pos p) a b ka kb m n y keys
+    v-found : v ≡ formal_tensors (prime_of maps) (base_of maps) (fibre_of maps) y
+    v-found = found-value (formal_tensors (prime_of maps) (base_of maps) (fibre_of maps)) (prime_of maps) (step_asked maps first n c) o v is found
 
-  pub minus-read : read_tensors a b x.terms ≡ minus_of p a b values y
-  minus-read =
-      ap (read_tensors a b) is-quoted
-      ∙ reads-back (number p) (number_pos p) a b ka kb m n (minus_of p a b values y) (minus-keys (number p) (number_pos p) a b ka kb m n y keys)
+    keys : Each (Key (number (prime_of maps)) (number_pos (prime_of maps)) (base_of maps) (fibre_of maps) parts.base_built parts.fibre_built most d) y
+    keys =
+        subst (Each (Key (number (prime_of maps)) (number_pos (prime_of maps)) (base_of maps) (fibre_of maps) parts.base_built parts.fibre_built most d)) (if_found (IsStepOf maps first n c) o v is back)
+        (T.tensors-read (number (prime_of maps)) (number_pos (prime_of maps)) (base_of maps) (fibre_of maps) parts.base_built parts.fibre_built most d v.terms (if_found (EachIn (IsTensorIn maps most d)) o v is within))
 
-  pub minus-within : Each (IsTensorWithin a b m n) x.terms
-  minus-within =
-      subst (Each (IsTensorWithin a b m n)) (sym is-quoted)
-      (T.tensors-are (number p) (number_pos p) a b ka kb m n (minus_of p a b values y) (minus-keys (number p) (number_pos p) a b ka kb m n y keys))
+    is-quoted : x.terms ≡ quote_tensors (base_of maps) (fibre_of maps) (minus_of (prime_of maps) (base_of maps) (fibre_of maps) (values_of maps) y)
+    is-quoted =
+        minus ∙ (λ i. normal tensor_cmp (number (v-found i).prime) (scale (number (v-found i).prime - 1) (v-found i).terms))
+        ∙ minus-quoted (number (prime_of maps)) (number_pos (prime_of maps)) (base_of maps) (fibre_of maps) parts.base_built parts.fibre_built most d y keys
+
+    minus-keyed : Each (Key (number (prime_of maps)) (number_pos (prime_of maps)) (base_of maps) (fibre_of maps) parts.base_built parts.fibre_built most d) (minus_of (prime_of maps) (base_of maps) (fibre_of maps) (values_of maps) y)
+    minus-keyed = minus-keys (number (prime_of maps)) (number_pos (prime_of maps)) (base_of maps) (fibre_of maps) parts.base_built parts.fibre_built most d y keys
+
+    pub minus-prime : x.prime ≡ (prime_of maps)
+    minus-prime = prime ∙ ap (λ (z : Formal (Tensor Cell Cell)). z.prime) v-found
+
+    pub minus-read : read_tensors (base_of maps) (fibre_of maps) x.terms ≡ minus_of (prime_of maps) (base_of maps) (fibre_of maps) (values_of maps) y
+    minus-read = ap (read_tensors (base_of maps) (fibre_of maps)) is-quoted ∙ reads-back (number (prime_of maps)) (number_pos (prime_of maps)) (base_of maps) (fibre_of maps) parts.base_built parts.fibre_built most d (minus_of (prime_of maps) (base_of maps) (fibre_of maps) (values_of maps) y) minus-keyed
+
+    pub minus-within : Each (IsTensorWithin (base_of maps) (fibre_of maps) most d) x.terms
+    minus-within =
+        subst (Each (IsTensorWithin (base_of maps) (fibre_of maps) most d)) (sym is-quoted)
+        (T.tensors-are (number (prime_of maps)) (number_pos (prime_of maps)) (base_of maps) (fibre_of maps) parts.base_built parts.fibre_built most d (minus_of (prime_of maps) (base_of maps) (fibre_of maps) (values_of maps) y) minus-keyed)

@@ -27,6 +27,8 @@ use Rattle.part_asks.proofs.Readings.{value-bind}
 use Rattle.part_asks.proofs.RightStages as R
 use Rattle.twist_chains.specs.Fibred.{twist_by, AreTwistValues, room, read_tensors, quote_tensors, IsTensorWithin, difference_of}
 use Rattle.fibred_asks.specs.declared.steps.First.TheVariants.{Difference, Homotopy}
+use Rattle.fibred_asks.specs.declared.maps.Maps.{Maps}
+use Rattle.fibred_asks.specs.Asked.{prime_of, base_of, fibre_of, values_of}
 use Rattle.fibred_asks.specs.Parts.{AreParts, IfFound}
 use Rattle.fibred_asks.specs.Seconds.{h_on}
 use Rattle.fibred_asks.specs.Steps.{step_on}
@@ -43,11 +45,23 @@ less_is n = omega arith
 pub if_found : {T : Type 0} (P : T → Type 0) (o : Found T) (v : T) → o ≡ Value v → IfFound P o → P v
 if_found P o v e h = subst (IfFound P) e h
 
-module _ (p : Prime) (a b : Space) (values : Option (List ℤ)) where
-  abbrev pub read : Terms (Tensor Cell Cell) → Terms (PlainTensor (Plain a) (Plain b))
+module _ (maps : Maps) where
+  abbrev p : Prime
+  p = prime_of maps
+
+  abbrev a : Space
+  a = base_of maps
+
+  abbrev b : Space
+  b = fibre_of maps
+
+  abbrev values : Option (List ℤ)
+  values = values_of maps
+
+  abbrev read : Terms (Tensor Cell Cell) → Terms (PlainTensor (Plain a) (Plain b))
   read c = read_tensors a b c
 
-  abbrev pub r_at : ℕ → Terms (PlainTensor (Plain a) (Plain b)) → Terms (PlainTensor (Plain a) (Plain b))
+  abbrev r_at : ℕ → Terms (PlainTensor (Plain a) (Plain b)) → Terms (PlainTensor (Plain a) (Plain b))
   r_at n c = r (number p) (linear (ordered a)) (ordered b) (part a) (part b) (twist_by values (number p) a b) n c
 
   -- the homotopy, read back

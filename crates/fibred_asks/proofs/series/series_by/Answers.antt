@@ -11,16 +11,14 @@ use Rattle.twist_chains.specs.Fibred.{room, growth}
 use Rattle.oracle_iface.proofs.CarriedChains.{each-normal}
 use Rattle.homology_rules.proofs.Quoted.{each-append}
 use Rattle.part_asks.specs.Askers.{formal_tensors}
-use Rattle.part_asks.specs.Reading.{keys_of, value_of}
+use Rattle.part_asks.specs.Reading.{keys_of}
 use Rattle.part_asks.proofs.Reached.{asked-nothing}
-use Rattle.part_asks.proofs.Readings.{found-none, found-value, found-over}
-use Rattle.fibred_asks.specs.Parts.{EachIn}
+use Rattle.part_asks.proofs.Readings.{found-none, found-over}
 use Rattle.fibred_asks.specs.Seconds.{series_room}
 use Rattle.fibred_asks.specs.Asked.{prime_of, base_of, fibre_of, values_of, IsTensorIn}
-use Rattle.fibred_asks.specs.Steps.{top_of, end_of, step_asked, series_asked, IsStepOf}
-use Rattle.fibred_asks.proofs.SeriesSteps.{if_found}
+use Rattle.fibred_asks.specs.Steps.{top_of, end_of, step_asked, series_asked}
 use Rattle.fibred_asks.proofs.TensorKeys.{within-wider}
-use Rattle.fibred_asks.proofs.SeriesRounds.{end-same, room-start, room-now, room-fits, room-next, left-start, left-may, left-valid, left-asked, left-refused, left-through, left-next, left-none, left-all, left-found, left-so_far, minus-read, minus-within}
+use Rattle.fibred_asks.proofs.SeriesRounds.{end-same, room-start, room-now, room-fits, room-next, left-start, left-may, left-valid, left-asked, left-refused, left-through, left-next, left-none, left-all, left-found, left-so_far, minus-prime, minus-read, minus-within}
 use Rattle.fibred_asks.proofs.series.series_by.Goals as goal
 
 pub returns-in_err-term-clause-asked : goal.returns-in_err-term-clause-asked
@@ -37,7 +35,7 @@ loop-left-init g c =
       far = c.requires.reach;
       few = omega arith;
       fits = let e : c.args.n + 1 ≡ suc c.args.n = omega arith in subst (λ k. c.args.most + k * (((top_of c.args.first c.args.n) + 2) * growth (values_of c.args.m.now)) ≤ (series_room (values_of c.args.m.now) (top_of c.args.first c.args.n) c.args.most)) (sym e) (room-start c.args.first c.args.n c.args.most (((top_of c.args.first c.args.n) + 2) * growth (values_of c.args.m.now)));
-      stage = left-start (prime_of c.args.m.now) (base_of c.args.m.now) (fibre_of c.args.m.now) (values_of c.args.m.now) c.args.first c.args.n g.F.Forcer.forces c.args.c.now.terms (numbers c.new-sum.result.items) c.in_ok-term.term.terms (c.args.n + 1) c.args.forcer.now (ap numbers c.new-sum.ensures.items) (let e : c.args.n + 1 ≡ suc c.args.n = omega arith in e) (ap (λ (d : Formal (CodeTensor Cell Cell)). d.terms) is) c.requires.valid;
+      stage = left-start c.args.m.now c.args.first c.args.n g.F.Forcer.forces c.args.c.now.terms (numbers c.new-sum.result.items) c.in_ok-term.term.terms (c.args.n + 1) c.args.forcer.now (ap numbers c.new-sum.ensures.items) (let e : c.args.n + 1 ≡ suc c.args.n = omega arith in e) (ap (λ (d : Formal (CodeTensor Cell Cell)). d.terms) is) c.requires.valid;
     }
 
 pub step-requires-clause-room : goal.step-requires-clause-room
@@ -75,7 +73,7 @@ reach_after-reach-requires-clause-room g c = subst (λ k. room (values_of c.args
 
 pub loop-left-preserved : goal.loop-left-preserved
 loop-left-preserved g c = record {
-  prime = c.negated-term.ensures.prime ∙ ap (λ (d : Formal (CodeTensor Cell Cell)). d.prime) (found-value (formal_tensors (prime_of c.args.m.now) (base_of c.args.m.now) (fibre_of c.args.m.now)) (prime_of c.args.m.now) (step_asked c.args.m.now c.args.first c.args.n c.loop-left.term.terms) _ c.in-Value.next c.in-Value.is c.in_ok-over.ensures.found);
+  prime = minus-prime c.args.m.now c.requires.parts c.args.first c.args.n (room (values_of c.args.m.now) (top_of c.args.first c.args.n) c.loop-left.reach) (end_of c.args.first c.args.n) c.loop-left.term.terms _ c.in-Value.next c.negated-term.result c.in-Value.is c.in_ok-over.ensures.found c.in_ok-over.ensures.back c.in_ok-over.ensures.tensors c.negated-term.ensures.prime c.negated-term.ensures.terms;
   elements = subst (λ r. All (λ t. t.1.value < number r) c.collect.new.terms.items) c.loop-left.invariant.prime c.in_ok-collect.ensures.elements;
   stands =
       subst (Each (IsTensorIn c.args.m.now (series_room (values_of c.args.m.now) (top_of c.args.first c.args.n) c.args.most) c.args.n)) (sym c.in_ok-collect.ensures.sum)
@@ -83,11 +81,11 @@ loop-left-preserved g c = record {
       (within-wider (base_of c.args.m.now) (fibre_of c.args.m.now) c.loop-left.reach (series_room (values_of c.args.m.now) (top_of c.args.first c.args.n) c.args.most) c.args.n (omega (arith, (room-now c.loop-left.left c.loop-left.reach (((top_of c.args.first c.args.n) + 2) * growth (values_of c.args.m.now)) (series_room (values_of c.args.m.now) (top_of c.args.first c.args.n) c.args.most) c.loop-left-test.true c.loop-left.invariant.fits))) c.loop-left.term.terms (c.loop-left.invariant.next c.loop-left-test.true)));
   next = λ l.
       subst (λ (z : ℕ × ℕ). Each (IsTensorIn c.args.m.now z.0 z.1) c.negated-term.result.terms) (λ i. (sym (c.reach_after-reach.ensures ∙ ap (λ k. room (values_of c.args.m.now) k c.loop-left.reach) c.top.ensures) i, end-same c.args.first c.args.n (c.loop-left.left - 1) l (omega (arith, c.loop-left.invariant.few)) i))
-      (minus-within (prime_of c.args.m.now) (base_of c.args.m.now) (fibre_of c.args.m.now) c.requires.parts.base_built c.requires.parts.fibre_built (values_of c.args.m.now) (room (values_of c.args.m.now) (top_of c.args.first c.args.n) c.loop-left.reach) (end_of c.args.first c.args.n) (value_of (prime_of c.args.m.now) (step_asked c.args.m.now c.args.first c.args.n c.loop-left.term.terms)) c.in-Value.next c.negated-term.result (found-value (formal_tensors (prime_of c.args.m.now) (base_of c.args.m.now) (fibre_of c.args.m.now)) (prime_of c.args.m.now) (step_asked c.args.m.now c.args.first c.args.n c.loop-left.term.terms) _ c.in-Value.next c.in-Value.is c.in_ok-over.ensures.found) (if_found (IsStepOf c.args.m.now c.args.first c.args.n c.loop-left.term.terms) _ c.in-Value.next c.in-Value.is c.in_ok-over.ensures.back) (if_found (EachIn (IsTensorIn c.args.m.now (room (values_of c.args.m.now) (top_of c.args.first c.args.n) c.loop-left.reach) (end_of c.args.first c.args.n))) _ c.in-Value.next c.in-Value.is c.in_ok-over.ensures.tensors) c.negated-term.ensures.terms);
+      (minus-within c.args.m.now c.requires.parts c.args.first c.args.n (room (values_of c.args.m.now) (top_of c.args.first c.args.n) c.loop-left.reach) (end_of c.args.first c.args.n) c.loop-left.term.terms _ c.in-Value.next c.negated-term.result c.in-Value.is c.in_ok-over.ensures.found c.in_ok-over.ensures.back c.in_ok-over.ensures.tensors c.negated-term.ensures.prime c.negated-term.ensures.terms);
   far = let e = (c.reach_after-reach.ensures ∙ ap (λ k. room (values_of c.args.m.now) k c.loop-left.reach) c.top.ensures) in omega (arith, e, c.loop-left.invariant.far);
   few = omega (arith, c.loop-left.invariant.few);
   fits = subst (λ k. k + (c.loop-left.left - 1) * (((top_of c.args.first c.args.n) + 2) * growth (values_of c.args.m.now)) ≤ (series_room (values_of c.args.m.now) (top_of c.args.first c.args.n) c.args.most)) (sym (c.reach_after-reach.ensures ∙ ap (λ k. room (values_of c.args.m.now) k c.loop-left.reach) c.top.ensures)) (room-next c.loop-left.left c.loop-left.reach (((top_of c.args.first c.args.n) + 2) * growth (values_of c.args.m.now)) (series_room (values_of c.args.m.now) (top_of c.args.first c.args.n) c.args.most) c.loop-left-test.true c.loop-left.invariant.fits);
-  stage = left-next c.loop-left.invariant.stage c.loop-left-test.true (numbers c.collect.new.terms.items) c.negated-term.result.terms c.step.new.forcer c.in_ok-collect.ensures.sum (minus-read (prime_of c.args.m.now) (base_of c.args.m.now) (fibre_of c.args.m.now) c.requires.parts.base_built c.requires.parts.fibre_built (values_of c.args.m.now) (room (values_of c.args.m.now) (top_of c.args.first c.args.n) c.loop-left.reach) (end_of c.args.first c.args.n) (value_of (prime_of c.args.m.now) (step_asked c.args.m.now c.args.first c.args.n c.loop-left.term.terms)) c.in-Value.next c.negated-term.result (found-value (formal_tensors (prime_of c.args.m.now) (base_of c.args.m.now) (fibre_of c.args.m.now)) (prime_of c.args.m.now) (step_asked c.args.m.now c.args.first c.args.n c.loop-left.term.terms) _ c.in-Value.next c.in-Value.is c.in_ok-over.ensures.found) (if_found (IsStepOf c.args.m.now c.args.first c.args.n c.loop-left.term.terms) _ c.in-Value.next c.in-Value.is c.in_ok-over.ensures.back) (if_found (EachIn (IsTensorIn c.args.m.now (room (values_of c.args.m.now) (top_of c.args.first c.args.n) c.loop-left.reach) (end_of c.args.first c.args.n))) _ c.in-Value.next c.in-Value.is c.in_ok-over.ensures.tensors) c.negated-term.ensures.terms) (found-none (formal_tensors (prime_of c.args.m.now) (base_of c.args.m.now) (fibre_of c.args.m.now)) (prime_of c.args.m.now) (step_asked c.args.m.now c.args.first c.args.n c.loop-left.term.terms) _ c.in-Value.next c.in-Value.is c.in_ok-over.ensures.found) c.in_ok-over.ensures.through;
+  stage = left-next c.loop-left.invariant.stage c.loop-left-test.true (numbers c.collect.new.terms.items) c.negated-term.result.terms c.step.new.forcer c.in_ok-collect.ensures.sum (minus-read c.args.m.now c.requires.parts c.args.first c.args.n (room (values_of c.args.m.now) (top_of c.args.first c.args.n) c.loop-left.reach) (end_of c.args.first c.args.n) c.loop-left.term.terms _ c.in-Value.next c.negated-term.result c.in-Value.is c.in_ok-over.ensures.found c.in_ok-over.ensures.back c.in_ok-over.ensures.tensors c.negated-term.ensures.prime c.negated-term.ensures.terms) (found-none (formal_tensors (prime_of c.args.m.now) (base_of c.args.m.now) (fibre_of c.args.m.now)) (prime_of c.args.m.now) (step_asked c.args.m.now c.args.first c.args.n c.loop-left.term.terms) _ c.in-Value.next c.in-Value.is c.in_ok-over.ensures.found) c.in_ok-over.ensures.through;
 }
 
 pub from_terms-requires-clause-one_key : goal.from_terms-requires-clause-one_key

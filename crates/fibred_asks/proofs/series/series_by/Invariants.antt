@@ -5,7 +5,7 @@ use Rattle.chain_core.specs.Formal.{numbers}
 use Rattle.twist_chains.specs.Fibred.{growth}
 use Rattle.fibred_asks.specs.Reached.{limited_reach}
 use Rattle.fibred_asks.specs.Seconds.{series_room}
-use Rattle.fibred_asks.specs.Asked.{prime_of, base_of, fibre_of, values_of, IsTensorIn}
+use Rattle.fibred_asks.specs.Asked.{prime_of, values_of, IsTensorIn}
 use Rattle.fibred_asks.specs.Steps.{top_of}
 use Rattle.fibred_asks.proofs.SeriesRounds.{Left}
 use Rattle.fibred_asks.proofs.series.series_by.Given as goal
@@ -19,7 +19,7 @@ invariant-loop-left g l = record {
   far : limited_reach ≤ l.reach;
   few : l.left ≤ suc l.n;
   fits : l.reach + l.left * ((top_of l.first l.n + 2) * growth (values_of l.m)) ≤ series_room (values_of l.m) (top_of l.first l.n) l.most;
-  stage : Left (prime_of l.m) (base_of l.m) (fibre_of l.m) (values_of l.m) l.first l.n g.F.Forcer.forces l.c.terms (numbers l.sum.items) l.left l.term.terms l.initial.forcer l.forcer;
+  stage : Left l.m l.first l.n g.F.Forcer.forces l.c.terms (numbers l.sum.items) l.left l.term.terms l.initial.forcer l.forcer;
 }
 
 abbrev pub decreases-loop-left : goal.decreases-loop-left
