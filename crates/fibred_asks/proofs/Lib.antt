@@ -9,3 +9,8 @@ pub mod CappedReach
 pub mod BuiltSpaces
 pub mod WithinLimits
 pub mod ReachedValues
+pub mod TensorKeys
+pub mod DifferenceCalls
+pub mod ShownTensors
+pub mod SeriesSteps
+pub mod SeriesRounds

@@ -3,3 +3,4 @@ pub mod Parts
 pub mod Seconds
 pub mod Totals
 pub mod Asked
+pub mod Steps

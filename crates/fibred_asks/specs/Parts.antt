@@ -1,7 +1,6 @@
 -- Base and fibre of a product or a circle bundle, with what is known of their values, and what is found along tensors.
 --
 --   K(Z,1) and a sphere are base and fibre of their product; F of a tensor is the pairs of small cells of F of its two cells
-use Rattle.std.specs.Prelude.{◌≡◌}
 use Rattle.fp_field.specs.declared.prime.Prime.{Prime}
 use Rattle.fp_field.specs.Field.{number}
 use Rattle.fp_field.specs.Chains.{Terms, EachKey}

@@ -5,6 +5,7 @@ mod laws;
 mod maps;
 mod series;
 mod smalls;
+mod steps;
 mod tensors;
 mod totals;
 
