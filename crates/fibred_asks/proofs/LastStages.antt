@@ -12,6 +12,11 @@ use Rattle.part_asks.specs.declared.found.Found.TheVariants.{Value, Over}
 use Rattle.part_asks.specs.Reading.{keys_of, value_of, IsFound}
 use Rattle.part_asks.proofs.Reached.{refused-then, asked-beyond, may-rest}
 use Rattle.part_asks.proofs.RightStages.{Stage, AsksValid, stage-start}
+use Rattle.fibred_asks.specs.Parts.{IfFound}
+
+-- what is said of a value that was found
+pub if-found : {T : Type 0} (P : T → Type 0) (o : Found T) (v : T) → o ≡ Value v → IfFound P o → P v
+if-found P o v e h = subst (IfFound P) e h
 
 module _ {F : Type 0} (calls : Calls F) (p : Prime) where
   -- the same right side, written otherwise

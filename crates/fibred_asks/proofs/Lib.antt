@@ -1,0 +1,14 @@
+pub mod LastStages
+pub mod Numbers
+pub mod FibredCalls
+pub mod TensorKeys
+pub mod TensorValues
+pub mod FirstChains
+pub mod ReachedTensors
+pub mod TotalF
+pub mod TotalG
+pub mod TotalH
+pub mod TotalD
+pub mod SmallSteps
+pub mod SmallValues
+pub mod ShownSmalls

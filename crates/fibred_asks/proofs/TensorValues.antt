@@ -48,7 +48,7 @@ use Rattle.fibred_asks.specs.Seconds.{h_on, p2_on, s2_on, f_on}
 use Rattle.fibred_asks.proofs.TensorKeys.{TensorKey, Gen, gens-of, some-reach}
 
 -- what is built is assembled
-assembled : (a : Space) → IsBuilt a → IsAssembled a
+pub assembled : (a : Space) → IsBuilt a → IsAssembled a
 assembled (table t) u = tt
 assembled (sphere m) u = tt
 assembled (product a b) u = (assembled a u.0, assembled b u.1)

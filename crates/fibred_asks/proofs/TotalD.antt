@@ -15,6 +15,7 @@ use Rattle.spaces.specs.EilenbergZilber.{Tensor, linear}
 use Rattle.cells.specs.declared.cells.Cell.{Cell}
 use Rattle.cells.specs.declared.cells.SmallCell.{SmallCell}
 use Rattle.values.specs.Asks.{Right, gives, ◌>>=◌}
+use Rattle.values.specs.BaseLaws.{IsSmall}
 use Rattle.values.specs.Perturbed.{small_terms, smalls_by}
 use Rattle.values.specs.Rules.{part}
 use Rattle.oracle_iface.specs.SmallForms.{small_form}
@@ -25,6 +26,7 @@ use Rattle.part_asks.specs.Along.{AsksValid}
 use Rattle.part_asks.specs.Askers.{g_tensor, formal_tensors}
 use Rattle.part_asks.specs.OneKey.{small_d_at}
 use Rattle.part_asks.specs.Reading.{keys_of, value_of}
+use Rattle.part_asks.proofs.Readings.{value-bind}
 use Rattle.part_asks.proofs.RightStages.{Stage, stage-start, stage-next, valid-next, bind-assoc}
 use Rattle.twist_chains.specs.Fibred.{twist_by, AreTwistValues, read_tensors, difference_of}
 use Rattle.fibred_asks.specs.Parts.{AreParts}
@@ -35,7 +37,7 @@ use Rattle.fibred_asks.proofs.FirstChains.{GenIn, found-back}
 use Rattle.fibred_asks.proofs.LastStages.{stage-as}
 use Rattle.fibred_asks.proofs.ReachedTensors.{g-gens_in}
 use Rattle.fibred_asks.proofs.TensorKeys.{gens-back}
-use Rattle.fibred_asks.proofs.TensorValues.{p2-gens, difference-gens}
+use Rattle.fibred_asks.proofs.TensorValues.{p2-gens, difference-gens, f-smalls}
 
 -- ---- the part that the twist makes
 
@@ -93,6 +95,24 @@ module _ {S : Type 0} (calls : Calls S) (p : Prime) (a b : Space) (parts : ArePa
           stage-as calls p (transferred p a b values n y z) (f_on_differ x) (f_on p a b values (read_tensors a b d)) s t2
           (ap (λ e. f_on p a b values e) (ap (differ p a b values n) (sym read-v) ∙ sym read-d))
           (stage-next calls p (transferred p a b values n y z) (p2_on p a b values n (read_tensors a b u.terms)) f_on_differ s t goes_on t2 none2 through2)
+
+-- its terms are pairs of small cells of one degree less
+module _ (p : Prime) (a b : Space) (parts : AreParts p a b) (values : Option (List ℤ)) (are : AreTwistValues values a b) (n : ℕ) (low : n ≤ 30)
+    (y z : SmallCell) (sum : n ≡ small_degree a (small_form y a) + small_degree b (small_form z b)) (valid_g : AsksValid p (g_tensor p a b y z)) where
+  abbrev made : Terms (Tensor (Plain a) (Plain b))
+  made = value_of p (p2_on p a b values n (value_of p (g_tensor p a b y z)))
+
+  made-gens : Each (GenIn p a b parts.base_built parts.fibre_built n) made
+  made-gens =
+      p2-gens p a b parts.base_built parts.fibre_built values are n (omega (arith, low)) (value_of p (g_tensor p a b y z)) (g-gens_in p a b parts y z valid_g n sum)
+
+  pub transferred-smalls : Each (λ x. (small_degree a x.0 + small_degree b x.1 ≡ n - 1) × (IsSmall a x.0 × IsSmall b x.1)) (value_of p (transferred p a b values n y z))
+  transferred-smalls =
+      subst (Each (λ x. (small_degree a x.0 + small_degree b x.1 ≡ n - 1) × (IsSmall a x.0 × IsSmall b x.1)))
+      (sym (value-bind p (g_tensor p a b y z) (λ u. p2_on p a b values n u >>= f_differ p a b values n)
+      ∙ value-bind p (p2_on p a b values n (value_of p (g_tensor p a b y z))) (f_differ p a b values n)))
+      (f-smalls p a b parts.base_built parts.fibre_built values (n - 1) (differ p a b values n made)
+      (difference-gens p a b parts.base_built parts.fibre_built values are n (omega (arith, low)) made made-gens))
 
 -- ---- the whole
 

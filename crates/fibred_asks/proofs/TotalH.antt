@@ -41,7 +41,7 @@ use Rattle.fibred_asks.specs.Seconds.{h_on, p2_on}
 use Rattle.fibred_asks.specs.Totals.{h_total, formal_pairs}
 use Rattle.fibred_asks.proofs.FirstChains.{GenIn, first-back, read-gens, found-back}
 use Rattle.fibred_asks.proofs.LastStages.{starts-as, stage-as}
-use Rattle.fibred_asks.proofs.TensorValues.{raised, p2-gens}
+use Rattle.fibred_asks.proofs.TensorValues.{raised as raised-gens, p2-gens}
 use Rattle.fibred_asks.proofs.TotalG.{lift}
 
 -- P1 of the flow
@@ -121,37 +121,47 @@ module _ {S : Type 0} (calls : Calls S) (p : Prime) (a b : Space) (parts : ArePa
       (none : first_refusal (keys_of p (h_on p a b values (read_tensors a b u))) ≡ None) (through : EachAnswered calls s (up_to_refusal (keys_of p (h_on p a b values (read_tensors a b u)))) t) where
     value-gens : Each (GenIn p a b parts.base_built parts.fibre_built (suc n)) (value_of p (h_on p a b values (read_tensors a b u)))
     value-gens =
-        raised p a b parts.base_built parts.fibre_built values n (read_tensors a b u)
+        raised-gens p a b parts.base_built parts.fibre_built values n (read_tensors a b u)
         (read-gens p a b parts.base_built parts.fibre_built values are limited_reach n (omega (arith, low)) c pairs u is)
 
     back : read_tensors a b v.terms ≡ value_of p (h_on p a b values (read_tensors a b u))
     back = found-back p a b parts.base_built parts.fibre_built (suc n) (omega (arith, low)) (value_of p (h_on p a b values (read_tensors a b u))) value-gens v v_is
 
-    pub goes_on : Stage calls p (h_total p a b values n (read_pairs a b c)) (p2_on p a b values (suc n) (read_tensors a b v.terms) >>= λ w. gives (both p a b values n (read_pairs a b c) w)) s t
-    goes_on =
-        let x = value_of p (h_on p a b values (read_tensors a b u)) in
-        stage-as calls p (h_total p a b values n (read_pairs a b c)) (p2_on p a b values (suc n) x >>= sums) (p2_on p a b values (suc n) (read_tensors a b v.terms) >>= sums) s t
-        (ap (λ x. p2_on p a b values (suc n) x >>= sums) (sym back))
-        (stage-next calls p (h_total p a b values n (read_pairs a b c)) (h_on p a b values (read_tensors a b u)) (λ x. p2_on p a b values (suc n) x >>= sums) s s begins t none through)
+    -- the degree of the homotopy, as the code has it
+    module _ (k : ℕ) (k_is : k ≡ suc n) where
+      pub goes_on : Stage calls p (h_total p a b values n (read_pairs a b c)) (p2_on p a b values k (read_tensors a b v.terms) >>= λ w. gives (both p a b values n (read_pairs a b c) w)) s t
+      goes_on =
+          let x = value_of p (h_on p a b values (read_tensors a b u)) in
+          stage-as calls p (h_total p a b values n (read_pairs a b c)) (p2_on p a b values (suc n) x >>= sums) (p2_on p a b values k (read_tensors a b v.terms) >>= sums) s t
+          (λ i. p2_on p a b values (sym k_is i) (sym back i) >>= sums)
+          (stage-next calls p (h_total p a b values n (read_pairs a b c)) (h_on p a b values (read_tensors a b u)) (λ x. p2_on p a b values (suc n) x >>= sums) s s begins t none through)
 
-    module _ (t2 : S) (w : Formal (CodeTensor Cell Cell)) (w_is : w ≡ formal_tensors p a b (value_of p (p2_on p a b values (suc n) (read_tensors a b v.terms))))
-        (none2 : first_refusal (keys_of p (p2_on p a b values (suc n) (read_tensors a b v.terms))) ≡ None)
-        (through2 : EachAnswered calls t (up_to_refusal (keys_of p (p2_on p a b values (suc n) (read_tensors a b v.terms)))) t2) where
-      pub ends : Stage calls p (h_total p a b values n (read_pairs a b c)) (gives (both p a b values n (read_pairs a b c) (read_tensors a b w.terms))) s t2
-      ends =
-          let x = value_of p (p2_on p a b values (suc n) (read_tensors a b v.terms)) in
-          stage-as calls p (h_total p a b values n (read_pairs a b c)) (sums x) (sums (read_tensors a b w.terms)) s t2
-          (ap sums (sym (found-back p a b parts.base_built parts.fibre_built (suc n) (omega (arith, low)) x
-          (p2-gens p a b parts.base_built parts.fibre_built values are (suc n) (omega (arith, low)) (read_tensors a b v.terms)
-          (subst (Each (GenIn p a b parts.base_built parts.fibre_built (suc n))) (sym back) value-gens)) w w_is)))
-          (stage-next calls p (h_total p a b values n (read_pairs a b c)) (p2_on p a b values (suc n) (read_tensors a b v.terms)) sums s t goes_on t2 none2 through2)
+      module _ (t2 : S) (w : Formal (CodeTensor Cell Cell)) (w_is : w ≡ formal_tensors p a b (value_of p (p2_on p a b values k (read_tensors a b v.terms))))
+          (none2 : first_refusal (keys_of p (p2_on p a b values k (read_tensors a b v.terms))) ≡ None)
+          (through2 : EachAnswered calls t (up_to_refusal (keys_of p (p2_on p a b values k (read_tensors a b v.terms)))) t2) where
+        low-k : k ≤ 32
+        low-k = omega (arith, low, k_is)
 
-      -- what the sum of the two chains is
-      pub sum-found : (m : ℕ) → limited_reach ≤ m → Each (IsTensorWithin a b m (suc n)) w.terms → (r : Formal Cell) → r.prime ≡ p
-          → r.terms ≡ normal cell_cmp (number p) (homotopy_of a b values (number p) n c ++ lifted_of a b values (number p) (suc n) w.terms)
-          → r ≡ formal_pairs p a b (value_of p (h_total p a b values n (read_pairs a b c)))
-      sum-found m l tensors r e h = λ i. record {
-        prime = e i;
-        terms = (h ∙ both-quoted p a b parts.base_built parts.fibre_built values are m n low limited_reach l c pairs w.terms tensors
-            ∙ ap (quote_pairs a b) (sym ends.value_is)) i;
-      }
+        gens-k : Each (GenIn p a b parts.base_built parts.fibre_built k) (read_tensors a b v.terms)
+        gens-k =
+            subst (λ i. Each (GenIn p a b parts.base_built parts.fibre_built i) (read_tensors a b v.terms)) (sym k_is)
+            (subst (Each (GenIn p a b parts.base_built parts.fibre_built (suc n))) (sym back) value-gens)
+
+        pub ends : Stage calls p (h_total p a b values n (read_pairs a b c)) (gives (both p a b values n (read_pairs a b c) (read_tensors a b w.terms))) s t2
+        ends =
+            let x = value_of p (p2_on p a b values k (read_tensors a b v.terms)) in
+            stage-as calls p (h_total p a b values n (read_pairs a b c)) (sums x) (sums (read_tensors a b w.terms)) s t2
+            (ap sums (sym (found-back p a b parts.base_built parts.fibre_built k low-k x
+            (p2-gens p a b parts.base_built parts.fibre_built values are k low-k (read_tensors a b v.terms) gens-k) w w_is)))
+            (stage-next calls p (h_total p a b values n (read_pairs a b c)) (p2_on p a b values k (read_tensors a b v.terms)) sums s t goes_on t2 none2 through2)
+
+        -- what the sum of the two chains is
+        pub sum-found : (m : ℕ) → limited_reach ≤ m → Each (IsTensorWithin a b m k) w.terms → (r raised lifted : Formal Cell) → raised.prime ≡ p → raised.terms ≡ homotopy_of a b values (number p) n c
+            → lifted.terms ≡ lifted_of a b values (number p) k w.terms → r.prime ≡ raised.prime → r.terms ≡ normal cell_cmp (number raised.prime) (raised.terms ++ lifted.terms)
+            → r ≡ formal_pairs p a b (value_of p (h_total p a b values n (read_pairs a b c)))
+        sum-found m l tensors r raised lifted ep er el e h = λ i. record {
+          prime = (e ∙ ep) i;
+          terms = (h ∙ (λ i. normal cell_cmp (number (ep i)) (er i ++ (el ∙ ap (λ k. lifted_of a b values (number p) k w.terms) k_is) i))
+              ∙ both-quoted p a b parts.base_built parts.fibre_built values are m n low limited_reach l c pairs w.terms (subst (λ k. Each (IsTensorWithin a b m k) w.terms) k_is tensors)
+              ∙ ap (quote_pairs a b) (sym ends.value_is)) i;
+        }
