@@ -1,8 +1,12 @@
 -- How far the reaches of chains grow in degrees up to 31: a room and a series leave them far below 2^40.
-use Rattle.std.proofs.Common.{◌≡◌, ℕ, suc, ◌+◌, ◌*◌, ◌^◌, ◌≤◌, List, Option, Some, None, ℤ, arith}
+use Rattle.std.proofs.Common.{ℕ, zero, suc, ◌+◌, ◌*◌, ◌^◌, ◌≤◌, List, Option, Some, None, ℤ, arith}
 use Rattle.twist_chains.specs.Fibred.{growth, room}
-use Rattle.twist_chains.proofs.FirstTerms.{at-most}
 use Rattle.fibred_asks.specs.Seconds.{series_room}
+
+at-most : (a b g : ℕ) → a ≤ b → a * g ≤ b * g
+at-most zero b g l = omega arith
+at-most (suc a) zero g l = absurd (omega (arith, l))
+at-most (suc a) (suc b) g l = omega (arith, at-most a b g (omega (arith, l)))
 
 growth-low : (values : Option (List ℤ)) → growth values ≤ 6200000
 growth-low None = omega arith

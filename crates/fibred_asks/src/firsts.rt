@@ -3,6 +3,7 @@ ghost use Rattle.std.specs.Prelude.{◌≡◌, suc, ◌-◌, ◌≤◌, IfOk};
 ghost use Rattle.fp_field.specs.Field.{number};
 ghost use Rattle.fp_field.specs.Chains.{EachKey};
 ghost use Rattle.twist_chains.specs.Fibred.{tensors_of, lifted_of, homotopy_of, difference_of};
+ghost use Rattle.fibred_asks.specs.Parts.{AreParts};
 ghost use Rattle.fibred_asks.specs.Reached.{limited_reach};
 ghost use Rattle.fibred_asks.specs.Reaches.{first_reach, second_reach, third_reach};
 ghost use Rattle.fibred_asks.specs.Asked.{prime_of, base_of, fibre_of, values_of, HasTwist, IsTensorIn, IsPairIn};
@@ -21,6 +22,7 @@ pub(crate) fn first_tensors(
     n: u32,
     c: &Chain<Cell>,
 ) -> Result<Chain<Tensor<Cell, Cell>>, AllocError>
+    requires parts { AreParts (prime_of m.now) (base_of m.now) (fibre_of m.now) }
     requires values { HasTwist m.now }
     requires degree { n ≤ 31 }
     requires prime { c.now.prime ≡ (prime_of m.now) }
@@ -40,6 +42,7 @@ pub(crate) fn first_pairs(
     n: u32,
     c: &Chain<Tensor<Cell, Cell>>,
 ) -> Result<Chain<Cell>, AllocError>
+    requires parts { AreParts (prime_of m.now) (base_of m.now) (fibre_of m.now) }
     requires values { HasTwist m.now }
     requires degree { n ≤ 31 }
     requires prime { c.now.prime ≡ (prime_of m.now) }
@@ -58,6 +61,7 @@ pub(crate) fn first_difference(
     n: u32,
     c: &Chain<Tensor<Cell, Cell>>,
 ) -> Result<Chain<Tensor<Cell, Cell>>, AllocError>
+    requires parts { AreParts (prime_of m.now) (base_of m.now) (fibre_of m.now) }
     requires values { HasTwist m.now }
     requires degree { n ≤ 31 }
     requires prime { c.now.prime ≡ (prime_of m.now) }
@@ -77,6 +81,7 @@ pub(crate) fn first_raised(
     n: u32,
     c: &Chain<Cell>,
 ) -> Result<Chain<Cell>, AllocError>
+    requires parts { AreParts (prime_of m.now) (base_of m.now) (fibre_of m.now) }
     requires values { HasTwist m.now }
     requires degree { n ≤ 31 }
     requires prime { c.now.prime ≡ (prime_of m.now) }

@@ -1,5 +1,7 @@
 // The parts of a product or a circle bundle, for evaluations that ask for the maps of the parts.
-ghost use Rattle.std.specs.Prelude.{◌≡◌};
+ghost use Rattle.std.specs.Prelude.{◌≡◌, ◌≤◌, ◌^◌};
+ghost use Rattle.term_lang.specs.SpaceOf.{space_of};
+ghost use Rattle.space_faces.specs.Built.{IsAllowedBuilt};
 
 use cells::IntList;
 use oracle_iface::Key;
@@ -18,6 +20,9 @@ pub struct Maps<'a> {
 
 /// The faces of base and fibre, for pairs and tensors with a reach of at most `most`.
 pub fn fibred<'a>(m: &Maps<'a>, most: u64) -> Fibred<'a>
+    requires base { IsAllowedBuilt (space_of m.now.base.now.term) }
+    requires fibre { IsAllowedBuilt (space_of m.now.fibre.now.term) }
+    requires most { most ≤ 2 ^ 40 }
     ensures left { result.pair.left.term.now ≡ m.now.base.now.term }
     ensures right { result.pair.right.term.now ≡ m.now.fibre.now.term }
     ensures most { result.pair.most ≡ most }
