@@ -53,14 +53,14 @@ within X kept m n x h s =
 -- facts of the keys of two chains are facts of the two parts of their tensors
 module _ {K J : Type 0} (A : ℕ × K → Type 0) (B : ℕ × J → Type 0) where
   row-each : (x : ℕ × K) (n : ℕ) (e : Terms (ℕ × J)) → A x → Each B e
-      → Each (λ z. A (z.0, z.1) × B (z.2, z.3)) (map (λ u. ((x.0, x.1, u.0.0, u.0.1), n * u.1)) e)
+      → Each (λ (z : Tensor K J). A (z.0, z.1) × B (z.2, z.3)) (map (λ u. ((x.0, x.1, u.0.0, u.0.1), n * u.1)) e)
   row-each x n [] h g = tt
   row-each x n (u ∷ e) h g = ((h, g.0), row-each x n e h g.1)
 
-  tensor-each : (c : Terms (ℕ × K)) (e : Terms (ℕ × J)) → Each A c → Each B e → Each (λ z. A (z.0, z.1) × B (z.2, z.3)) (tensor_terms c e)
+  tensor-each : (c : Terms (ℕ × K)) (e : Terms (ℕ × J)) → Each A c → Each B e → Each (λ (z : Tensor K J). A (z.0, z.1) × B (z.2, z.3)) (tensor_terms c e)
   tensor-each [] e h g = tt
   tensor-each (t ∷ c) e h g =
-      Each-append (λ z. A (z.0, z.1) × B (z.2, z.3)) (map (λ u. ((t.0.0, t.0.1, u.0.0, u.0.1), t.1 * u.1)) e) (tensor_terms c e)
+      Each-append (λ (z : Tensor K J). A (z.0, z.1) × B (z.2, z.3)) (map (λ u. ((t.0.0, t.0.1, u.0.0, u.0.1), t.1 * u.1)) e) (tensor_terms c e)
       (row-each t.0 t.1 e h.0 g) (tensor-each c e h.1 g)
 
 module _ (p : Prime) (a b : Space) (parts : AreParts p a b) (y z : SmallCell) (valid : AsksValid p (g_tensor p a b y z)) (n : ℕ)
