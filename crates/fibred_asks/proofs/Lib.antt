@@ -14,3 +14,17 @@ pub mod DifferenceCalls
 pub mod ShownTensors
 pub mod SeriesSteps
 pub mod SeriesRounds
+pub mod LastStages
+pub mod Numbers
+pub mod FibredCalls
+pub mod TotalKeys
+pub mod TotalValues
+pub mod FirstChains
+pub mod ReachedTensors
+pub mod TotalF
+pub mod TotalG
+pub mod TotalH
+pub mod TotalD
+pub mod SmallSteps
+pub mod SmallValues
+pub mod ShownSmalls

@@ -7,3 +7,7 @@ pub mod NeedsAnswered
 pub mod FibredBases
 pub mod PartNames
 pub mod PartNeeds
+pub mod FoundBodies
+pub mod AtCells
+pub mod AtSmalls
+pub mod KeyFound

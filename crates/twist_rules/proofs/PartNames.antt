@@ -1,5 +1,6 @@
 -- The base and the fibre of a named product or circle bundle are named, and what is assembled has no loops.
 use Rattle.spaces.specs.Spaces.{Space, table, sphere, product, suspension, kz1, bundle, loops, paths, kzm1, cyclic_bundle}
+use Rattle.normal_forms.specs.Built.{IsBuilt}
 use Rattle.oracle_iface.specs.KeyLaws.{IsNamed}
 use Rattle.oracle_iface.proofs.Named.{product-parts, bundle-base, named-kz1}
 use Rattle.twist_laws.specs.Assembled.{IsLoopless, IsAssembled}
@@ -41,3 +42,16 @@ assembled-loopless (loops a) u = absurd u
 assembled-loopless (paths a) u = absurd u
 assembled-loopless (kzm1 m) u = absurd u
 assembled-loopless (cyclic_bundle t m c) u = absurd u
+
+-- and what is built is assembled
+pub built-assembled : (a : Space) → IsBuilt a → IsAssembled a
+built-assembled (table t) u = tt
+built-assembled (sphere m) u = tt
+built-assembled (product a b) u = (built-assembled a u.0, built-assembled b u.1)
+built-assembled (suspension a) u = built-assembled a u
+built-assembled kz1 u = tt
+built-assembled (bundle t c) u = tt
+built-assembled (loops a) u = absurd u
+built-assembled (paths a) u = absurd u
+built-assembled (kzm1 m) u = absurd u
+built-assembled (cyclic_bundle t m c) u = absurd u

@@ -1,3 +1,4 @@
 pub mod PartSpaces
+pub mod PartMaps
 pub mod PairBases
 pub mod Concluded

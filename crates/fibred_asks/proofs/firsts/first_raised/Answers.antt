@@ -1,0 +1,37 @@
+use Rattle.std.proofs.Common.{◌≡◌, ◌≤◌, ◌-◌, ◌^◌, IfOk, ap, arith}
+use Rattle.std.specs.Option.{option_copied}
+use Rattle.std.proofs.lemmas.Result.{IfOk-weaker}
+use Rattle.fp_field.specs.Field.{number}
+use Rattle.fp_field.specs.Chains.{EachKey}
+use Rattle.twist_chains.specs.Fibred.{AreTwistValues, room, IsPairWithin, IsTensorWithin, homotopy_of}
+use Rattle.fibred_asks.specs.Asked.{prime_of, base_of, fibre_of, values_of}
+use Rattle.fibred_asks.specs.Reached.{limited_reach}
+use Rattle.fibred_asks.specs.Reaches.{first_reach, second_reach, third_reach}
+use Rattle.fibred_asks.proofs.FibredCalls.{of-parts, to-parts}
+use Rattle.fibred_asks.proofs.Numbers.{room-within}
+use Rattle.fibred_asks.proofs.TotalKeys.{wider-tensors}
+use Rattle.fibred_asks.proofs.firsts.first_raised.Goals as goal
+
+pub first_homotopy-requires-clause-values : goal.first_homotopy-requires-clause-values
+first_homotopy-requires-clause-values c =
+    of-parts (λ x. AreTwistValues x.2 x.0 x.1) c.fibred-f.ensures.left c.fibred-f.ensures.right (ap option_copied c.fibred-f.ensures.values) c.fibred-f.ensures.most c.fibred-f.ensures.prime c.requires.values
+
+pub first_homotopy-requires-clause-prime : goal.first_homotopy-requires-clause-prime
+first_homotopy-requires-clause-prime c =
+    of-parts (λ x. c.args.c.now.prime ≡ x.4) c.fibred-f.ensures.left c.fibred-f.ensures.right (ap option_copied c.fibred-f.ensures.values) c.fibred-f.ensures.most c.fibred-f.ensures.prime c.requires.prime
+
+pub first_homotopy-requires-clause-room : goal.first_homotopy-requires-clause-room
+first_homotopy-requires-clause-room c =
+    of-parts (λ x. room x.2 c.args.n x.3 ≤ 2 ^ 40) c.fibred-f.ensures.left c.fibred-f.ensures.right (ap option_copied c.fibred-f.ensures.values) c.fibred-f.ensures.most c.fibred-f.ensures.prime (room-within (values_of c.args.m.now) c.args.n c.requires.degree limited_reach (2 ^ 40) (omega arith))
+
+pub first_homotopy-requires-clause-pairs : goal.first_homotopy-requires-clause-pairs
+first_homotopy-requires-clause-pairs c =
+    of-parts (λ x. EachKey (IsPairWithin x.0 x.1 x.3 c.args.n) c.args.c.now.terms) c.fibred-f.ensures.left c.fibred-f.ensures.right (ap option_copied c.fibred-f.ensures.values) c.fibred-f.ensures.most c.fibred-f.ensures.prime c.requires.pairs
+
+pub returns-clause-prime : goal.returns-clause-prime
+returns-clause-prime c =
+    to-parts (λ x. IfOk c.first_homotopy.result (λ r. r.prime ≡ x.4)) c.fibred-f.ensures.left c.fibred-f.ensures.right (ap option_copied c.fibred-f.ensures.values) c.fibred-f.ensures.most c.fibred-f.ensures.prime c.first_homotopy.ensures.prime
+
+pub returns-clause-terms : goal.returns-clause-terms
+returns-clause-terms c =
+    to-parts (λ x. IfOk c.first_homotopy.result (λ r. r.terms ≡ homotopy_of x.0 x.1 x.2 (number x.4) c.args.n c.args.c.now.terms)) c.fibred-f.ensures.left c.fibred-f.ensures.right (ap option_copied c.fibred-f.ensures.values) c.fibred-f.ensures.most c.fibred-f.ensures.prime c.first_homotopy.ensures.terms
