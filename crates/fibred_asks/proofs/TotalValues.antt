@@ -87,7 +87,7 @@ module _ (p : Prime) (a b : Space) (ka : IsAllowedBuilt a) (kb : IsAllowedBuilt 
   degrees : HasDegrees P (T.ruled P pos a b ka.0.0 kb.0.0 untwisted)
   degrees =
       let t = tensored-meets P pos a b ka.0.0 kb.0.0 untwisted (products-lower P pos a b) (products-complex P pos a b ka.0.0 kb.0.0).twice
-          (no-difference P pos a b ka.0.0 kb.0.0) 0 left-reduced right-reduced in
+      (no-difference P pos a b ka.0.0 kb.0.0) 0 left-reduced right-reduced in
       T.ruled-degrees P pos a b ka.0.0 kb.0.0 untwisted left-reduced.degrees right-reduced.degrees t.degrees
 
   -- G of two small cells

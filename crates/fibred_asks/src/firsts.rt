@@ -15,6 +15,18 @@ use ez_maps::Tensor;
 use std::alloc::{AllocError, Global};
 use twist_chains::{difference, first_homotopy, lifted, to_tensors};
 
+/// The reach of what is past no limit, at most.
+pub(crate) const LIMITED_REACH: u64 = 51_200_000_000;
+
+/// The reach after a room of the first perturbation, at most.
+pub(crate) const FIRST_REACH: u64 = 52_000_000_000;
+
+/// The reach after a series of the second perturbation, at most.
+pub(crate) const SECOND_REACH: u64 = 60_000_000_000;
+
+/// The reach after one more room, at most.
+pub(crate) const THIRD_REACH: u64 = 61_000_000_000;
+
 /// S1 and then Alexander-Whitney on a chain of pairs of degree n.
 pub(crate) fn first_tensors(
     alloc: Global,
@@ -31,7 +43,7 @@ pub(crate) fn first_tensors(
     ensures terms { IfOk result (λ r. r.terms ≡ tensors_of (base_of m.now) (fibre_of m.now) (values_of m.now) (number (prime_of m.now)) n c.now.terms) }
     ensures tensors { IfOk result (λ r. EachKey (IsTensorIn m.now first_reach n) r.terms) }
 {
-    let f = fibred(m, 51_200_000_000);
+    let f = fibred(m, LIMITED_REACH);
     to_tensors(alloc, &f, n, c)
 }
 
@@ -50,7 +62,7 @@ pub(crate) fn first_pairs(
     ensures prime { IfOk result (λ r. r.prime ≡ prime_of m.now) }
     ensures terms { IfOk result (λ r. r.terms ≡ lifted_of (base_of m.now) (fibre_of m.now) (values_of m.now) (number (prime_of m.now)) n c.now.terms) }
 {
-    let f = fibred(m, 60_000_000_000);
+    let f = fibred(m, SECOND_REACH);
     lifted(alloc, &f, n, c)
 }
 
@@ -70,7 +82,7 @@ pub(crate) fn first_difference(
     ensures terms { IfOk result (λ r. r.terms ≡ difference_of (base_of m.now) (fibre_of m.now) (values_of m.now) (number (prime_of m.now)) n c.now.terms) }
     ensures tensors { IfOk result (λ r. EachKey (IsTensorIn m.now third_reach (n - 1)) r.terms) }
 {
-    let f = fibred(m, 60_000_000_000);
+    let f = fibred(m, SECOND_REACH);
     difference(alloc, &f, n, c)
 }
 
@@ -89,6 +101,6 @@ pub(crate) fn first_raised(
     ensures prime { IfOk result (λ r. r.prime ≡ prime_of m.now) }
     ensures terms { IfOk result (λ r. r.terms ≡ homotopy_of (base_of m.now) (fibre_of m.now) (values_of m.now) (number (prime_of m.now)) n c.now.terms) }
 {
-    let f = fibred(m, 51_200_000_000);
+    let f = fibred(m, LIMITED_REACH);
     first_homotopy(alloc, &f, n, c)
 }

@@ -13,7 +13,10 @@ ghost use Rattle.fibred_asks.specs.Totals.{formal_pairs};
 ghost use Rattle.fibred_asks.specs.Asked.{prime_of, base_of, fibre_of, HasTwist, IsPairIn, total_f_asked, total_g_asked, total_h_asked, total_d_asked};
 ghost use Rattle.fibred_asks.specs.Transferred.{transferred_asked};
 
-use crate::firsts::{first_difference, first_pairs, first_raised, first_tensors};
+use crate::firsts::{
+    FIRST_REACH, LIMITED_REACH, SECOND_REACH, THIRD_REACH, first_difference, first_pairs,
+    first_raised, first_tensors,
+};
 use crate::maps::Maps;
 use crate::series::{second_p, second_s};
 use crate::small_sums::pair_differential;
@@ -47,11 +50,11 @@ pub fn total_f<F: Forcer>(
     ensures found { IfOk result (λ o. IsFound (formal_smalls (prime_of m.now) (base_of m.now) (fibre_of m.now)) (prime_of m.now) (total_f_asked m.now n c.now.terms) o) }
 {
     let u = first_tensors(alloc, m, n, c)?;
-    let v = match second_s(alloc, m, n, 52_000_000_000, &u, forcer)? {
+    let v = match second_s(alloc, m, n, FIRST_REACH, &u, forcer)? {
         Found::Over(over) => return Ok(Found::Over(over)),
         Found::Value(v) => v,
     };
-    on_smalls(alloc, m, n, 60_000_000_000, &v, forcer)
+    on_smalls(alloc, m, n, SECOND_REACH, &v, forcer)
 }
 
 /// G of a pair of small cells of base and fibre whose degrees have the sum n: G of both, P2, Eilenberg-Mac Lane, and P1.
@@ -75,11 +78,19 @@ pub fn total_g<F: Forcer>(
     ensures through { IfOk result (λ o. EachAnswered F.forces forcer.old (up_to_refusal (keys_of (prime_of m.now) (total_g_asked m.now n y.now z.now))) forcer.new) }
     ensures found { IfOk result (λ o. IsFound (formal_pairs (prime_of m.now) (base_of m.now) (fibre_of m.now)) (prime_of m.now) (total_g_asked m.now n y.now z.now) o) }
 {
-    let u = match tensor_g(alloc, m.base.prime, &m.base.term, &m.fibre.term, y, z, forcer)? {
+    let u = match tensor_g(
+        alloc,
+        m.base.prime,
+        &m.base.term,
+        &m.fibre.term,
+        y,
+        z,
+        forcer,
+    )? {
         Found::Over(over) => return Ok(Found::Over(over)),
         Found::Value(u) => u,
     };
-    let v = match second_p(alloc, m, n, 51_200_000_000, &u, forcer)? {
+    let v = match second_p(alloc, m, n, LIMITED_REACH, &u, forcer)? {
         Found::Over(over) => return Ok(Found::Over(over)),
         Found::Value(v) => v,
     };
@@ -106,11 +117,11 @@ pub fn total_h<F: Forcer>(
     ensures found { IfOk result (λ o. IsFound (formal_pairs (prime_of m.now) (base_of m.now) (fibre_of m.now)) (prime_of m.now) (total_h_asked m.now n c.now.terms) o) }
 {
     let u = first_tensors(alloc, m, n, c)?;
-    let v = match on_tensors(alloc, m, n, 52_000_000_000, &u, forcer)? {
+    let v = match on_tensors(alloc, m, n, FIRST_REACH, &u, forcer)? {
         Found::Over(over) => return Ok(Found::Over(over)),
         Found::Value(v) => v,
     };
-    let w = match second_p(alloc, m, n + 1, 52_000_000_000, &v, forcer)? {
+    let w = match second_p(alloc, m, n + 1, FIRST_REACH, &v, forcer)? {
         Found::Over(over) => return Ok(Found::Over(over)),
         Found::Value(w) => w,
     };
@@ -141,16 +152,24 @@ fn transferred_f<F: Forcer>(
     ensures through { IfOk result (λ o. EachAnswered F.forces forcer.old (up_to_refusal (keys_of (prime_of m.now) (transferred_asked m.now n y.now z.now))) forcer.new) }
     ensures found { IfOk result (λ o. IsFound (formal_smalls (prime_of m.now) (base_of m.now) (fibre_of m.now)) (prime_of m.now) (transferred_asked m.now n y.now z.now) o) }
 {
-    let u = match tensor_g(alloc, m.base.prime, &m.base.term, &m.fibre.term, y, z, forcer)? {
+    let u = match tensor_g(
+        alloc,
+        m.base.prime,
+        &m.base.term,
+        &m.fibre.term,
+        y,
+        z,
+        forcer,
+    )? {
         Found::Over(over) => return Ok(Found::Over(over)),
         Found::Value(u) => u,
     };
-    let v = match second_p(alloc, m, n, 51_200_000_000, &u, forcer)? {
+    let v = match second_p(alloc, m, n, LIMITED_REACH, &u, forcer)? {
         Found::Over(over) => return Ok(Found::Over(over)),
         Found::Value(v) => v,
     };
     let d = first_difference(alloc, m, n, &v)?;
-    on_smalls(alloc, m, n.saturating_sub(1), 61_000_000_000, &d, forcer)
+    on_smalls(alloc, m, n.saturating_sub(1), THIRD_REACH, &d, forcer)
 }
 
 /// The small differential of a pair of small cells of base and fibre whose degrees have the sum n: that of the tensor product, and F of base and
@@ -188,5 +207,13 @@ pub fn total_d<F: Forcer>(
         Found::Over(over) => return Ok(Found::Over(over)),
         Found::Value(twisted) => twisted,
     };
-    Ok(Found::Value(pair_differential(alloc, cells::small_degree(y), y, z, of_left, of_right, twisted)?))
+    Ok(Found::Value(pair_differential(
+        alloc,
+        cells::small_degree(y),
+        y,
+        z,
+        of_left,
+        of_right,
+        twisted,
+    )?))
 }
