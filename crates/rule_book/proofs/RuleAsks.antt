@@ -35,7 +35,8 @@ use Rattle.homology_laws.specs.Suspended.{innermost}
 use Rattle.homology_laws.proofs.IntegersLists.{circle-reduction}
 use Rattle.homology_laws.proofs.SuspendedLists.{simple-reduction}
 use Rattle.homology_laws.proofs.TableLists.{table-reduction, sphere-reduction}
-use Rattle.susp_rules.specs.Treated.{IsAnswered, IsTreated, answered_built}
+use Rattle.susp_rules.specs.Treated.{IsTreated}
+use Rattle.normal_forms.specs.Built.{IsBuilt}
 use Rattle.normal_forms.proofs.BuiltForms.{built_cells}
 use Rattle.susp_rules.specs.Suspendable.{IsSuspendable, IsOutcomeBack}
 use Rattle.susp_rules.proofs.ShownSuspensions.{simple-shown}
@@ -48,7 +49,7 @@ use Rattle.rule_book.proofs.WithinLimits.{rows-none_needed}
 -- ---- the spaces that are built
 
 -- the maps of the innermost part are a reduction
-innermost-reduction : (p : Prime) (a : Space) → IsAnswered a → IsAllowed a → IsReduction (number p) (maps_of (number p) (innermost a))
+innermost-reduction : (p : Prime) (a : Space) → IsBuilt a → IsAllowed a → IsReduction (number p) (maps_of (number p) (innermost a))
 innermost-reduction p = built_spaces (λ a. IsAllowed a → IsReduction (number p) (maps_of (number p) (innermost a)))
     (λ t is. table-reduction (number p) (is_field p) t is.0) (λ m is. sphere-reduction (number p) (is_field p) m is.0.0) (λ is. circle-reduction (number p) (is_field p))
     (λ a u h is. h (is.0.0, omega (arith, is.1)))
@@ -58,18 +59,18 @@ pub shown : (k : Key) → IsTreated k → HasShownValues (number k.prime) (space
 shown k is =
     let a = space_of k.term in
     let allowed = key-allowed k is.0 in
-    simple-shown (number k.prime) (is_field k.prime) a allowed (built_simple a is.1) (built_cells a allowed (answered_built a is.1)) (innermost-reduction k.prime a is.1 allowed)
+    simple-shown (number k.prime) (is_field k.prime) a allowed (built_simple a is.1) (built_cells a allowed is.1) (innermost-reduction k.prime a is.1 allowed)
 
 -- ---- the terms of keys
 
 pub integers-space : (k : Key) → k.term ≡ KZ1 → space_of k.term ≡ kz1
 integers-space k e = ap space_of e ∙ space-KZ1
 
-suspendable : (p : Prime) (a : Space) → IsAnswered a → IsAllowed (suspension a) → IsSuspendable (number p) a
+suspendable : (p : Prime) (a : Space) → IsBuilt a → IsAllowed (suspension a) → IsSuspendable (number p) a
 suspendable p a built allowed =
     let part : IsAllowed a = (allowed.0.0, omega (arith, allowed.1)) in record {
-      part_cells = built_cells a part (answered_built a built);
-      cells = built_cells (suspension a) allowed (answered_built a built);
+      part_cells = built_cells a part built;
+      cells = built_cells (suspension a) allowed built;
       degrees = (simple-reduction (number p) (is_field p) a part (built_simple a built) (innermost-reduction p a built part) 0).degrees;
     }
 
@@ -77,7 +78,7 @@ pub suspension-space : (k : Key) (t : Term) → IsTreated k → k.term ≡ Suspe
     → (a : Space) × (space_of k.term ≡ suspension a) × IsSuspendable (number k.prime) a
 suspension-space k t is e =
     let same : space_of k.term ≡ suspension (space_of t) = ap space_of e ∙ space-Suspension t in
-    (space_of t, same, suspendable k.prime (space_of t) (subst IsAnswered same is.1) (subst IsAllowed same (key-allowed k is.0)))
+    (space_of t, same, suspendable k.prime (space_of t) (subst IsBuilt same is.1) (subst IsAllowed same (key-allowed k is.0)))
 
 pub outcome-back : (k : Key) → IsTreated k → IsOutcomeBack k
 outcome-back k is =
@@ -90,11 +91,11 @@ pub rows-sphere : (k : Key) (m : ℕ) → IsTreated k → k.term ≡ Sphere m �
 rows-sphere k m is e = (is.0, subst HasRows (sym (ap space_of e ∙ space-Sphere m)) tt)
 
 -- the term of a space that is built
-pub built_term : (t : Term) → IsAnswered (space_of t) → ((rows : List Row) → t ≡ TableTerm rows → ⊥) → ((m : ℕ) → t ≡ Sphere m → ⊥) → (t ≡ KZ1 → ⊥)
+pub built_term : (t : Term) → IsBuilt (space_of t) → ((rows : List Row) → t ≡ TableTerm rows → ⊥) → ((m : ℕ) → t ≡ Sphere m → ⊥) → (t ≡ KZ1 → ⊥)
     → ((u : Term) → t ≡ Suspension u → ⊥) → ⊥
 built_term t built no_table no_sphere no_integers no_suspension = by (space_of t) built (term-back t)
   where
-    by : (a : Space) → IsAnswered a → term_of a ≡ t → ⊥
+    by : (a : Space) → IsBuilt a → term_of a ≡ t → ⊥
     by (table rows) b e = no_table _ (sym e)
     by (sphere m) b e = no_sphere m (sym e)
     by (product a c) b e = absurd b

@@ -23,7 +23,8 @@ use Rattle.oracle_iface.specs.Limits.{limited_body}
 use Rattle.oracle_iface.specs.Stands.{quote_outcome, IsRead, IsOutcome}
 use Rattle.oracle_iface.proofs.CyclesNeeds.{key-space, key-op}
 use Rattle.oracle_iface.proofs.LimitsAgree.{limits-agree}
-use Rattle.susp_rules.specs.Treated.{IsAnswered, IsTreated}
+use Rattle.susp_rules.specs.Treated.{IsTreated}
+use Rattle.normal_forms.specs.Built.{IsBuilt}
 use Rattle.rule_book.specs.Lower.{asked_built}
 use Rattle.rule_book.specs.Needed.{built_simple}
 use Rattle.rule_book.specs.Places.{IsWithin}
@@ -45,7 +46,7 @@ row_spaces P t s (kzm1 m) u = absurd u
 row_spaces P t s (cyclic_bundle r m c) u = absurd u
 
 pub row-treated : (k : Key) → IsRowKey k → IsTreated k
-row-treated k is = (is.0, row_spaces IsAnswered (λ t. tt) (λ m. tt) (space_of k.term) is.1)
+row-treated k is = (is.0, row_spaces IsBuilt (λ t. tt) (λ m. tt) (space_of k.term) is.1)
 
 asked_rows : (k : Key) → IsRowKey k → HasRows (space_asked (question_of k))
 asked_rows k is = subst HasRows (sym (key-space k)) is.1

@@ -16,18 +16,19 @@ use Rattle.oracle_iface.specs.Keys.{question_of, key_of, needs_of, IsValidKey}
 use Rattle.oracle_iface.specs.KeyLaws.{IsNamed, IsReadBack}
 use Rattle.oracle_iface.proofs.CyclesNeeds.{key-space, key-named}
 use Rattle.oracle_iface.proofs.KeysBack.{valid-back, valid-key}
-use Rattle.susp_rules.specs.Treated.{IsAnswered, IsTreated, answered_built}
+use Rattle.susp_rules.specs.Treated.{IsTreated}
+use Rattle.normal_forms.specs.Built.{IsBuilt}
 use Rattle.normal_forms.proofs.BuiltForms.{built_cells}
 use Rattle.rule_book.specs.Needed.{built_simple, near_built, near_named, needed_space}
 
-pub asked_built : (k : Key) → IsTreated k → IsAnswered (space_asked (question_of k))
-asked_built k is = subst IsAnswered (sym (key-space k)) is.1
+pub asked_built : (k : Key) → IsTreated k → IsBuilt (space_asked (question_of k))
+asked_built k is = subst IsBuilt (sym (key-space k)) is.1
 
 module _ (k : Key) (q : Ask) (is : IsTreated k) (needed : Contains (needs_of k) q) where
   abbrev here : Space
   here = space_asked (question_of k)
 
-  built : IsAnswered (space_asked q)
+  built : IsBuilt (space_asked q)
   built = near_built here (space_asked q) (needed_space (number k.prime) (question_of k) q (asked_built k is) needed) (asked_built k is)
 
   named : IsNamed (space_asked q)
@@ -40,10 +41,10 @@ module _ (k : Key) (q : Ask) (is : IsTreated k) (needed : Contains (needs_of k) 
   needs-lower-rank = below.1
 
   pub needs-back : IsReadBack k.prime q
-  needs-back = valid-back k.prime q named (built_cells (space_asked q) below.0.0 (answered_built (space_asked q) built)) below.0
+  needs-back = valid-back k.prime q named (built_cells (space_asked q) below.0.0 built) below.0
 
   pub needs-treated : IsTreated (key_of k.prime q)
-  needs-treated = (valid-key k.prime q needs-back below.0, subst IsAnswered (sym named) built)
+  needs-treated = (valid-key k.prime q needs-back below.0, subst IsBuilt (sym named) built)
 
 pub treated-valid : (k : Key) → IsTreated k → IsValidKey k
 treated-valid k is = is.0

@@ -19,12 +19,12 @@ use Rattle.oracle_iface.specs.KeyLaws.{IsNamed, CyclesNeed, cells_in, cells_abov
 use Rattle.oracle_iface.specs.declared.keys.Op.TheVariants.{Basis, SmallD, F, G, H, Cycles}
 use Rattle.oracle_iface.proofs.CyclesNeeds.{cycles-need}
 use Rattle.oracle_iface.proofs.Named.{suspension-part}
-use Rattle.susp_rules.specs.Treated.{IsAnswered}
+use Rattle.normal_forms.specs.Built.{IsBuilt}
 use Rattle.susp_rules.proofs.Questions.{at_suspension}
 
 -- what holds for tables, spheres and K(Z,1), and for a suspension where it holds for the part, holds for the spaces that are built
-pub built_spaces : (P : Space → Type 0) → ((t : Table) → P (table t)) → ((m : ℕ) → P (sphere m)) → P kz1 → ((a : Space) → IsAnswered a → P a → P (suspension a))
-    → (a : Space) → IsAnswered a → P a
+pub built_spaces : (P : Space → Type 0) → ((t : Table) → P (table t)) → ((m : ℕ) → P (sphere m)) → P kz1 → ((a : Space) → IsBuilt a → P a → P (suspension a))
+    → (a : Space) → IsBuilt a → P a
 built_spaces P t s i up (table rows) u = t rows
 built_spaces P t s i up (sphere m) u = s m
 built_spaces P t s i up (product a b) u = absurd u
@@ -36,20 +36,20 @@ built_spaces P t s i up (paths a) u = absurd u
 built_spaces P t s i up (kzm1 m) u = absurd u
 built_spaces P t s i up (cyclic_bundle r m c) u = absurd u
 
-pub built_simple : (a : Space) → IsAnswered a → IsSimple a
+pub built_simple : (a : Space) → IsBuilt a → IsSimple a
 built_simple a u = built_spaces IsSimple (λ t. tt) (λ m. tt) tt (λ b v h. h) a u
 
 -- without parts, or a suspension
-built_is : (a : Space) → IsAnswered a → HasNoParts a ⊎ ((b : Space) × (a ≡ suspension b))
+built_is : (a : Space) → IsBuilt a → HasNoParts a ⊎ ((b : Space) × (a ≡ suspension b))
 built_is a u = built_spaces (λ s. HasNoParts s ⊎ ((b : Space) × (s ≡ suspension b))) (λ t. inl tt) (λ m. inl tt) (inl tt) (λ b v h. inr (b, refl)) a u
 
 -- the same space, or what is suspended
 abbrev pub IsNear : Space → Space → Type 0
 IsNear a b = (b ≡ a) ⊎ (a ≡ suspension b)
 
-pub near_built : (a b : Space) → IsNear a b → IsAnswered a → IsAnswered b
-near_built a b (inl e) u = subst IsAnswered (sym e) u
-near_built a b (inr e) u = let v : IsAnswered (suspension b) = subst IsAnswered e u in v
+pub near_built : (a b : Space) → IsNear a b → IsBuilt a → IsBuilt b
+near_built a b (inl e) u = subst IsBuilt (sym e) u
+near_built a b (inr e) u = let v : IsBuilt (suspension b) = subst IsBuilt e u in v
 
 pub near_named : (a b : Space) → IsNear a b → IsNamed a → IsNamed b
 near_named a b (inl e) named = subst IsNamed (sym e) named
@@ -100,7 +100,7 @@ module _ (p : ℕ) where
   single_space k q e not (inr part) c =
       inr (part.1 ∙ ap suspension (sym (All-contains (λ j. space_asked j ≡ part.0) (needs p k) q (All-from_recursion (λ j. space_asked j ≡ part.0) (needs p k) (of_part part.0 k part.1 not)) c)))
 
-  pub needed_space : (k q : Ask) → IsAnswered (space_asked k) → Contains (needs p k) q → IsNear (space_asked k) (space_asked q)
+  pub needed_space : (k q : Ask) → IsBuilt (space_asked k) → Contains (needs p k) q → IsNear (space_asked k) (space_asked q)
   needed_space (basis a n) q u c = single_space (basis a n) q refl (λ e. let z : Basis ≡ Cycles = e in cc) (built_is a u) c
   needed_space (small_d a y) q u c = single_space (small_d a y) q refl (λ e. let z : SmallD ≡ Cycles = e in cc) (built_is a u) c
   needed_space (f_at a n x) q u c = single_space (f_at a n x) q refl (λ e. let z : F ≡ Cycles = e in cc) (built_is a u) c

@@ -1,6 +1,6 @@
 use Rattle.std.proofs.Common.{sym, ◌∙◌, subst}
 use Rattle.term_lang.specs.SpaceOf.{space_of}
-use Rattle.susp_rules.specs.Treated.{IsAnswered}
+use Rattle.normal_forms.specs.Built.{IsBuilt}
 use Rattle.rule_book.proofs.RuleAsks.{asks_nothing, built_term, integers-space, suspension-space, outcome-back, rows-table, rows-sphere}
 use Rattle.rule_book.proofs.rules.single_outcome.Goals as goal
 
@@ -31,5 +31,5 @@ rule-requires-in-Suspension-clause-back g c = outcome-back c.args.key.now c.requ
 
 pub unreachable-requires : goal.unreachable-requires
 unreachable-requires g c =
-    built_term c.get.result.now (subst (λ t. IsAnswered (space_of t)) (sym c.get.ensures) c.requires.key.1) c.in_default.not-Table c.in_default.not-Sphere c.in_default.not-KZ1
+    built_term c.get.result.now (subst (λ t. IsBuilt (space_of t)) (sym c.get.ensures) c.requires.key.1) c.in_default.not-Table c.in_default.not-Sphere c.in_default.not-KZ1
     c.in_default.not-Suspension
