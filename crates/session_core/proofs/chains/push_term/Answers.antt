@@ -1,7 +1,6 @@
 use Rattle.std.proofs.Common.{SFits, w64, rules, ◌∙◌, ap}
 use Rattle.std.proofs.lemmas.Int.{to_z-of_z}
 use Rattle.fp_field.specs.Field.{number, residue}
-use Rattle.term_lang.specs.SpaceOf.{space_of}
 use Rattle.session_core.proofs.ToldTerms.{term_pushed}
 use Rattle.session_core.proofs.chains.push_term.Goals as goal
 
