@@ -1,8 +1,8 @@
 -- Rules for all keys that a session asks for.
 --
 -- Main definition: `TreatsAll`.
--- Worked value: rules for valid keys about tables, spheres, K(Z,1) and their suspensions are such rules; rules for tables and spheres alone
--- are not, since a session may ask for the small cells of K(Z,1).
+-- Worked value: rules for valid keys about tables, spheres, K(Z,1), circle bundles, and products and suspensions of these are such rules;
+-- rules without those of products are not, since a session may ask for the small cells of the product of two spheres.
 use Rattle.oracle_iface.specs.declared.keys.Key.{Key}
 use Rattle.susp_rules.specs.Treated.{IsTreated}
 

@@ -566,12 +566,12 @@ chain (9 e4)
 (field 04)
 (names) (names)
 ; A construction that is not built yet, before every other fault:
-(betti (crts-prdc (sphere 1) (sphere 1)) 0 2)
+(betti (crts-prdc (sphere 0) (loop-space (sphere 2))) 0 2)
 (setf k (suspension (loop-space (k-z-1))))
 (setf w (suspension (path-space (sphere 0))))
 (homology (loop-space nowhere) 99)
 (betti (path-space (sphere 2)) 0 3)
-(homology (bundle (sphere 2) (S2 1)) 3)
+(homology (bundle (path-space (sphere 2)) (S3 1)) 3)
 ; A name without a space, a number that is no prime of the list, a sphere out of range:
 (betti nowhere 0 1)
 (field 4)
@@ -591,6 +591,18 @@ chain (9 e4)
 (setf x (table (a) (b) (e a b) (t e e e)))
 (setf x (table (v0) (v1) (v2) (v3) (v4) (v5) (v6) (v7) (v8) (v9) (v10) (v11) (v12) (v13) (v14) (v15) (v16) (v17) (v18) (v19) (v20) (v21) (v22) (v23) (v24) (v25) (v26) (v27) (v28) (v29) (v30) (v31) (v32) (v33) (v34) (v35) (v36) (v37) (v38) (v39) (v40) (v41) (v42) (v43) (v44) (v45) (v46) (v47) (v48) (v49) (v50) (v51) (v52) (v53) (v54) (v55) (v56) (v57) (v58) (v59) (v60) (v61) (v62) (v63) (v64) (v65) (v66) (v67) (v68) (v69) (v70) (v71) (v72) (v73) (v74) (v75) (v76) (v77) (v78) (v79) (v80) (v81) (v82) (v83) (v84) (v85) (v86) (v87) (v88) (v89) (v90) (v91) (v92) (v93) (v94) (v95) (v96) (v97) (v98) (v99) (v100) (v101) (v102) (v103) (v104) (v105) (v106) (v107) (v108) (v109) (v110) (v111) (v112) (v113) (v114) (v115) (v116) (v117) (v118) (v119) (v120) (v121) (v122) (v123) (v124) (v125) (v126) (v127) (v128) (v129) (v130) (v131) (v132) (v133) (v134) (v135) (v136) (v137) (v138) (v139) (v140) (v141) (v142) (v143) (v144) (v145) (v146) (v147) (v148) (v149) (v150) (v151) (v152) (v153) (v154) (v155) (v156) (v157) (v158) (v159) (v160) (v161) (v162) (v163) (v164) (v165) (v166) (v167) (v168) (v169) (v170) (v171) (v172) (v173) (v174) (v175) (v176) (v177) (v178) (v179) (v180) (v181) (v182) (v183) (v184) (v185) (v186) (v187) (v188) (v189) (v190) (v191) (v192) (v193) (v194) (v195) (v196) (v197) (v198) (v199) (v200) (v201) (v202) (v203) (v204) (v205) (v206) (v207) (v208) (v209) (v210) (v211) (v212) (v213) (v214) (v215) (v216) (v217) (v218) (v219) (v220) (v221) (v222) (v223) (v224) (v225) (v226) (v227) (v228) (v229) (v230) (v231) (v232) (v233) (v234) (v235) (v236) (v237) (v238) (v239) (v240) (v241) (v242) (v243) (v244) (v245) (v246) (v247) (v248) (v249) (v250) (v251) (v252) (v253) (v254) (v255) (v256)))
 (names)
+; Bundles: the base, then the pairs one by one, then whether the values are closed. Pairs are counted from 1, rows from 0.
+(setf x (bundle (k-z-1) (S2 1)))
+(setf x (bundle (suspension (sphere 1)) (S2 1)))
+(setf x (bundle (sphere 2) (S2 1) (S3 100001)))
+(setf x (bundle (sphere 2) (S2 1) (S2 100001)))
+(setf x (bundle (sphere 2) (S2 -100001)))
+(setf x (bundle (table (v) (t 0:v 0:v 0:v) (w t 1-0:v 1-0:v 1-0:v)) (t 1)))
+; Products: the left part, then the right one, then the depth of the whole.
+(setf x (crts-prdc (sphere 0) (sphere 17)))
+(setf x (crts-prdc (sphere 1) (sphere 17)))
+(setf x (crts-prdc (k-z-1) (suspension (suspension (suspension (suspension (suspension (suspension (suspension (sphere 1))))))))))
+(setf x (suspension (crts-prdc (sphere 1) (table (a) (b)))))
 ; Degrees: the first one above 16.
 (homology (sphere 3) 17)
 (betti (sphere 3) 0 20)
@@ -639,6 +651,16 @@ error table unknown-cell 1 1
 error table face-law 3 0 2
 error table too-many-cells 257
 names
+error term base-not-table
+error term base-not-table
+error cocycle unknown-cell 2
+error cocycle repeated-cell 2
+error over integer 100001
+error cocycle not-closed 2 1
+error term bad-sphere 0
+error term bad-sphere 17
+error term too-deep 9
+error term not-one-vertex 2
 error degree 17
 error degree 20
 error degree 18
@@ -1394,7 +1416,7 @@ chain (4 ^|2|) (4 ^|3|) (1 ^|5|)
 (setf 2x (sphere 2))
 (boundary (sphere 2) 2)
 (boundary (sphere 2) 2 (-0 S2))
-(betti (crts-prdc (sphere 1) (sphere 1)) 0 2)
+(betti (crts-prdc (sphere 0) (loop-space (sphere 2))) 0 2)
 (homology (loop-space nowhere) 99)
 (setf k (suspension (path-space (sphere 0))))
 (betti x 0 1)
@@ -1404,6 +1426,12 @@ chain (4 ^|2|) (4 ^|3|) (1 ^|5|)
 (setf x (suspension (table (a) (b))))
 (setf x (suspension (suspension (suspension (suspension (suspension (suspension (suspension (suspension (sphere 1))))))))))
 (setf x (suspension (sphere 17)))
+(setf x (crts-prdc (sphere 0) (sphere 17)))
+(setf x (bundle (suspension (sphere 1)) (S2 1)))
+(setf x (bundle (sphere 2) (S2 1) (S3 1)))
+(setf x (bundle (sphere 2) (S2 1) (S2 1)))
+(setf x (bundle (sphere 2) (S2 100001)))
+(setf x (bundle (table (v) (t 0:v 0:v 0:v) (w t 1-0:v 1-0:v 1-0:v)) (t 1)))
 (setf x (table))
 (setf x (table (e e e)))
 (setf x (table (v) (e v v) (e v v)))
@@ -1445,6 +1473,12 @@ error term bad-sphere 17
 error term not-one-vertex 2
 error term too-deep 9
 error term bad-sphere 17
+error term bad-sphere 0
+error term base-not-table
+error cocycle unknown-cell 2
+error cocycle repeated-cell 2
+error over integer 100001
+error cocycle not-closed 2 1
 error table no-vertex
 error table no-vertex
 error table duplicate-cell 2

@@ -15,7 +15,8 @@ use Rattle.oracle_iface.specs.Forcing.{Calls, MayForceNeeds}
 use Rattle.oracle_iface.specs.KeyLaws.{IsNamed}
 use Rattle.oracle_iface.proofs.KeysBack.{valid-back, valid-key}
 use Rattle.oracle_iface.proofs.Named.{named-kz1, named-suspension}
-use Rattle.susp_rules.specs.Treated.{IsAnswered, IsTreated}
+use Rattle.susp_rules.specs.Treated.{IsTreated}
+use Rattle.normal_forms.specs.Built.{IsBuilt}
 use Rattle.normal_forms.proofs.BuiltForms.{built_cells}
 use Rattle.rule_book.specs.Lower.{needs-treated}
 
@@ -27,7 +28,7 @@ one_vertex = ([], (refl, λ i k l. tt), λ x is. empty x is.0)
     empty (a ∷ x) e = absurd (omega (arith, e))
 
 pub up_three-treated : (p : Prime) → IsTreated (record { op = F; prime = p; place = BigPlace (Up (Ints (pos 3 ∷ []))); term = Suspension KZ1 })
-up_three-treated p = (valid-key p question (valid-back p question named (built_cells (suspension kz1) valid.0 tt) valid) valid, subst IsAnswered (sym named) tt)
+up_three-treated p = (valid-key p question (valid-back p question named (built_cells (suspension kz1) valid.0 tt) valid) valid, subst IsBuilt (sym named) tt)
   where
     named : IsNamed (suspension kz1)
     named = named-suspension kz1 named-kz1

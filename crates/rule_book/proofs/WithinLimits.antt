@@ -11,7 +11,7 @@ use Rattle.values.specs.Sizes.{place_size}
 use Rattle.values.specs.Outcomes.{usual_limits, first_past, outcome, outcome_with, limited, is_value, is_over, Over as OverOf, Outcome as OutcomeOf}
 use Rattle.values.specs.Ranks.{is_cycles, space_of as space_asked}
 use Rattle.values.specs.Values.{value, right_side}
-use Rattle.values.proofs.BasesRows.{simple-outcome_back, no_parts-no_needs}
+use Rattle.values.proofs.BasesRows.{no_parts-no_needs}
 use Rattle.oracle_iface.specs.declared.keys.Key.{Key}
 use Rattle.oracle_iface.specs.declared.keys.Op.TheVariants.{SmallD, F, G, H, Cycles}
 use Rattle.oracle_iface.specs.declared.bodies.Body.{Body}
@@ -23,9 +23,13 @@ use Rattle.oracle_iface.specs.Limits.{limited_body}
 use Rattle.oracle_iface.specs.Stands.{quote_outcome, IsRead, IsOutcome}
 use Rattle.oracle_iface.proofs.CyclesNeeds.{key-space, key-op}
 use Rattle.oracle_iface.proofs.LimitsAgree.{limits-agree}
-use Rattle.susp_rules.specs.Treated.{IsAnswered, IsTreated}
+use Rattle.susp_rules.specs.Suspendable.{IsOutcomeBack}
+use Rattle.susp_rules.specs.Treated.{IsTreated}
+use Rattle.normal_forms.specs.Built.{IsBuilt}
 use Rattle.rule_book.specs.Lower.{asked_built}
-use Rattle.rule_book.specs.Needed.{built_simple}
+use Rattle.twist_laws.proofs.LooplessValues.{loopless-outcome_back}
+use Rattle.twist_rules.proofs.PartNames.{assembled-loopless}
+use Rattle.rule_book.specs.Needed.{built_assembled}
 use Rattle.rule_book.specs.Places.{IsWithin}
 use Rattle.rule_book.specs.RowSpaces.{HasRows, IsRowKey}
 use Rattle.rule_book.specs.Values.{HasValue}
@@ -45,10 +49,18 @@ row_spaces P t s (kzm1 m) u = absurd u
 row_spaces P t s (cyclic_bundle r m c) u = absurd u
 
 pub row-treated : (k : Key) → IsRowKey k → IsTreated k
-row-treated k is = (is.0, row_spaces IsAnswered (λ t. tt) (λ m. tt) (space_of k.term) is.1)
+row-treated k is = (is.0, row_spaces IsBuilt (λ t. tt) (λ m. tt) (space_of k.term) is.1)
 
 asked_rows : (k : Key) → IsRowKey k → HasRows (space_asked (question_of k))
 asked_rows k is = subst HasRows (sym (key-space k)) is.1
+
+-- ---- outcomes
+
+-- the outcome of a key is what its rule gives back
+pub outcome-back : (k : Key) → IsTreated k → IsOutcomeBack k
+outcome-back k is =
+    let a = space_asked (question_of k) in
+    loopless-outcome_back (number k.prime) usual_limits (question_of k) (assembled-loopless a (built_assembled a (asked_built k is)))
 
 -- ---- the limits on what a key is at
 
@@ -124,9 +136,7 @@ module _ (k : Key) (is : IsTreated k) (within : IsWithin k) where
 
   -- the outcome is what reading the rule gives, under the limits on values
   outcome_is : outcome usual_limits (number k.prime) (question_of k) ≡ limited usual_limits (question_of k) made
-  outcome_is =
-      simple-outcome_back usual_limits (number k.prime) (question_of k) (built_simple (space_asked (question_of k)) (asked_built k is))
-      ∙ ap unless within
+  outcome_is = outcome-back k is ∙ ap unless within
 
   limit_by : (e : OutcomeOf (Answer (question_of k))) (b : Body) → Value b ≡ quote_outcome k.prime (question_of k) e
       → limited_body k b ≡ quote_outcome k.prime (question_of k) (limited usual_limits (question_of k) e)

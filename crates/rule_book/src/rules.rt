@@ -11,12 +11,13 @@ use oracle_iface::{Forcer, Key, Op, Outcome, RuleSet};
 use std::alloc::{AllocError, Global};
 use term_lang::Term;
 
-/// The rules: what each valid key comes to that is about a table, a sphere or K(Z,1), suspended any number
-/// of times. The cycles of a degree are found by asking for small cells, their small differentials, and G.
-/// Every other key about a suspension is answered by asking for one key of what is suspended, or none; one
-/// about a table, a sphere or K(Z,1) is answered at once (Rubio and Sergeraert, Constructive Homological
-/// Algebra and Applications, on effective homology and on suspensions; Eilenberg and Mac Lane, On the groups
-/// H(Pi,n), I).
+/// The rules: what each valid key comes to that is about a table, a sphere, K(Z,1), a circle bundle, or
+/// what products and suspensions make of these. The cycles of a degree are found by asking for small cells,
+/// their small differentials, and G. Every other key about a product or a bundle is answered by asking for
+/// keys of its base and its fibre; one about a suspension by asking for one key of what is suspended, or
+/// none; one about a table, a sphere or K(Z,1) is answered at once (Rubio and Sergeraert, Constructive
+/// Homological Algebra and Applications, on effective homology, on suspensions and chapter 3; Shih 1962;
+/// Eilenberg and Mac Lane, On the groups H(Pi,n), I).
 #[derive(Clone, Copy, Debug)]
 pub struct Rules;
 
@@ -75,6 +76,8 @@ fn single_outcome<F: Forcer>(
         Term::Sphere(_) => direct_outcome(alloc, key),
         Term::KZ1 => kz1_rules::rule(alloc, key, forcer),
         Term::Suspension(_) => susp_rules::rule(alloc, key, forcer),
+        Term::Product(_, _) => twist_rules::rule(alloc, key, forcer),
+        Term::Bundle(_, _) => twist_rules::rule(alloc, key, forcer),
         _ => unreachable!(),
     }
 }

@@ -20,7 +20,8 @@ use Rattle.oracle_iface.specs.Terms.{term_of}
 use Rattle.oracle_iface.specs.KeyLaws.{IsNamed, HasCells}
 use Rattle.oracle_iface.proofs.Named.{named-space, term-back}
 use Rattle.oracle_iface.proofs.KeysBack.{valid-back, valid-key}
-use Rattle.susp_rules.specs.Treated.{IsAnswered, IsTreated, answered_built}
+use Rattle.susp_rules.specs.Treated.{IsTreated}
+use Rattle.normal_forms.specs.Built.{IsBuilt}
 use Rattle.normal_forms.proofs.BuiltForms.{built_cells}
 use Rattle.session_core.specs.Lines.{keys_asked}
 use Rattle.session_core.specs.Questions.{differentials, dimension_in, degrees_from, dimensions}
@@ -44,9 +45,9 @@ module _ (p : Prime) (t : Term) (ready : IsReady (space_of t)) where
   askable : (q : Ask) → Good q → IsTreated (key_of p q)
   askable q good =
       let named : IsNamed (space_asked q) = subst IsNamed (sym good.0) (named-space t) in
-      let cells : HasCells (space_asked q) = subst HasCells (sym good.0) (built_cells X ready.0 (answered_built X ready.1)) in
+      let cells : HasCells (space_asked q) = subst HasCells (sym good.0) (built_cells X ready.0 ready.1) in
       let same : space_of (term_of (space_asked q)) ≡ X = ap (λ a. space_of (term_of a)) good.0 ∙ ap space_of (term-back t) in
-      (valid-key p q (valid-back p q named cells good.1) good.1, subst IsAnswered (sym same) ready.1)
+      (valid-key p q (valid-back p q named cells good.1) good.1, subst IsBuilt (sym same) ready.1)
 
   each-askable : (qs : List Ask) → EachAsk Good qs → Every IsTreated (map (key_of p) qs)
   each-askable [] h = tt

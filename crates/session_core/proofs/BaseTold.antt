@@ -17,6 +17,7 @@ use Rattle.oracle_iface.proofs.Named.{term-back}
 use Rattle.reply_text.specs.declared.refusals.Refusal.TheVariants.{BaseNotTable}
 use Rattle.session_core.specs.Answer.{Told, told, refused, told_base}
 use Rattle.session_core.specs.Bundles.{named_sphere, base_rows}
+use Rattle.session_core.proofs.ReplyParts.{same-told, not-told}
 
 -- ---- the table of a sphere
 
@@ -36,6 +37,19 @@ named_rows n t names rows = (λ i. put_names (sym names i) (sym rows i)) ∙ put
 
 abbrev told_by : Option Table → Told Table
 told_by o = elim o [ Some t ↦ told t | None ↦ refused BaseNotTable ]
+
+-- the rows of a base that is told are a table
+pub base_form : (a : Space) → IsAllowed a → (t : Table) → told_by (base_rows a) ≡ told t → IsTable t
+base_form (table rows) is t e = subst IsTable (same-told rows t e) is.0
+base_form (sphere n) is t e = subst IsTable (same-told (named_sphere n) t e) (sphere_is_table n is.0.0 is.0.1 (named_sphere n) refl refl)
+base_form (product a b) is t e = absurd (not-told BaseNotTable t e)
+base_form (suspension a) is t e = absurd (not-told BaseNotTable t e)
+base_form kz1 is t e = absurd (not-told BaseNotTable t e)
+base_form (bundle rows c) is t e = absurd (not-told BaseNotTable t e)
+base_form (loops a) is t e = absurd (not-told BaseNotTable t e)
+base_form (paths a) is t e = absurd (not-told BaseNotTable t e)
+base_form (kzm1 m) is t e = absurd (not-told BaseNotTable t e)
+base_form (cyclic_bundle rows m c) is t e = absurd (not-told BaseNotTable t e)
 
 module _ (t : Term) where
   pub low_sphere : IsAllowed (space_of t) → (n : ℕ) → t ≡ Sphere n → (1 ≤ n) × (n ≤ 16)

@@ -14,7 +14,6 @@ use Rattle.script_lang.specs.declared.exprs.Expr.{Expr}
 use Rattle.script_lang.specs.declared.simplices.ChainText.{ChainText}
 use Rattle.script_lang.specs.declared.commands.Command.TheVariants as commands
 use Rattle.space_faces.specs.Boundaries.{IsLowCell, graded_chain, boundary_of as d_of}
-use Rattle.susp_rules.specs.Treated.{answered_built}
 use Rattle.normal_forms.proofs.BuiltForms.{built_cells}
 use Rattle.space_faces.proofs.ShownChains.{chain_low, chain_back}
 use Rattle.reply_text.specs.declared.replies.Reply.TheVariants as replies
@@ -29,18 +28,18 @@ use Rattle.session_core.proofs.Told.{stops_on, stops_later, is_told}
 
 module _ (p : Prime) (X : Space) (ready : IsReady X) (c : Formal Cell) (z : Terms (GradedCell X)) (stands : StandsFor p X c z) where
   pub cells_low : EachKey (IsLowCell X) c.terms
-  cells_low = subst (λ (d : Formal Cell). EachKey (IsLowCell X) d.terms) (sym stands.is) (chain_low X (built_cells X ready.0 (answered_built X ready.1)) ready.0.0 z stands.shown stands.bounded)
+  cells_low = subst (λ (d : Formal Cell). EachKey (IsLowCell X) d.terms) (sym stands.is) (chain_low X (built_cells X ready.0 ready.1) ready.0.0 z stands.shown stands.bounded)
 
   -- the cells of the code are those of the chain
   pub graded_back : graded_chain X c.terms ≡ z
-  graded_back = ap (λ (x : Formal Cell). graded_chain X x.terms) stands.is ∙ chain_back X (built_cells X ready.0 (answered_built X ready.1)) z stands.shown
+  graded_back = ap (λ (x : Formal Cell). graded_chain X x.terms) stands.is ∙ chain_back X (built_cells X ready.0 ready.1) z stands.shown
 
   -- the code's boundary stands for that of the chain
   pub boundary_stands : (d : Formal Cell) → d.prime ≡ c.prime → d.terms ≡ quote_chain X (d_of (number c.prime) X (graded_chain X c.terms))
       → d ≡ formal p (quote_chain X (d_of (number p) X z))
   boundary_stands d e f =
       let g = ap (λ (x : Formal Cell). quote_chain X (d_of (number x.prime) X (graded_chain X x.terms))) stands.is in
-      let h = ap (λ y. quote_chain X (d_of (number p) X y)) (chain_back X (built_cells X ready.0 (answered_built X ready.1)) z stands.shown) in
+      let h = ap (λ y. quote_chain X (d_of (number p) X y)) (chain_back X (built_cells X ready.0 ready.1) z stands.shown) in
       let i : d.terms ≡ quote_chain X (d_of (number p) X z) = f ∙ g ∙ h in
       let j : d.prime ≡ p = e ∙ ap (λ (x : Formal Cell). x.prime) stands.is in
       λ k. record { prime = j k; terms = i k }

@@ -2,7 +2,7 @@
 use Rattle.std.proofs.Common.{◌≡◌, List, Option, Some, None, sym, ◌∙◌, ap, subst, refl, ℤ}
 use Rattle.spaces.specs.Tables.{Table}
 use Rattle.spaces.specs.Spaces.{bundle}
-use Rattle.spaces.specs.Allowed.{IsAllowed, IsTable}
+use Rattle.spaces.specs.Allowed.{IsTable}
 use Rattle.term_lang.specs.declared.tables.Row.{Row}
 use Rattle.term_lang.specs.declared.terms.Term.{Term}
 use Rattle.term_lang.specs.declared.terms.Term.TheVariants.{Bundle as BundleTerm}
@@ -19,6 +19,7 @@ use Rattle.session_core.specs.declared.stops.Stop.{Stop}
 use Rattle.session_core.specs.Answer.{Told, told, refused, ◌>>◌, told_base, told_values, told_closed, told_bundle}
 use Rattle.session_core.specs.Bundles.{Fault, values_on, pairs_fault}
 use Rattle.session_core.specs.Telling.{Stops}
+use Rattle.session_core.specs.Whole.{IsReady}
 use Rattle.session_core.proofs.PairValues.{are_values, bundle_allowed}
 use Rattle.session_core.proofs.Told.{stops_on, stops_later}
 
@@ -54,10 +55,23 @@ module _ (t : Table) (values : List ℤ) where
   pub closed_told : first_open t values ≡ None → told_closed t values ≡ told values
   closed_told e = ap closed_by e
 
+  -- values that are told are closed
+  pub closed_none : (c : List ℤ) → told_closed t values ≡ told c → (first_open t values ≡ None) × (values ≡ c)
+  closed_none c e = by (first_open t values) refl e
+    where
+      by : (o : Option NotCocycle) → first_open t values ≡ o → closed_by o ≡ told c → (first_open t values ≡ None) × (values ≡ c)
+      by (Some found) f h = absurd (cc)
+      by None f h = (f, cc)
+
   pub closed_refused : (found : NotCocycle) → Some found ≡ first_open t values → told_closed t values ≡ refused (refusals.NotClosed found.row found.sum)
   closed_refused found e = ap closed_by (sym e)
 
 -- ---- the bundle
+
+pub values_ready : (t : Table) (pairs : List PairText) (values : List ℤ) → IsTable t → told_values t pairs ≡ told values → first_open t values ≡ None → IsReady (bundle t values)
+values_ready t pairs values form are closed =
+    let h = told_none t pairs values are in
+    subst (λ c. IsReady (bundle t c)) h.1 (bundle_allowed t pairs form h.0 (ap (first_open t) h.1 ∙ closed), tt)
 
 module _ (a : Term) (pairs : List PairText) where
   abbrev whole : Told Term
@@ -86,8 +100,5 @@ module _ (a : Term) (pairs : List PairText) where
             ∙ ap (λ m. m >> λ c. told (term_of (bundle t c))) (closed_told t values closed)
             ∙ ap told (ap (λ r. BundleTerm r values) (rows-back base) ∙ sym is)
 
-        pub allowed_told : IsTable t → IsAllowed (space_of u)
-        allowed_told form =
-            let h = told_none t pairs values are in
-            subst IsAllowed (sym (ap space_of is ∙ space-Bundle base values))
-            (subst (λ c. IsAllowed (bundle t c)) h.1 (bundle_allowed t pairs form h.0 (ap (first_open t) h.1 ∙ closed)))
+        pub bundle_ready : IsTable t → IsReady (space_of u)
+        bundle_ready form = subst IsReady (sym (ap space_of is ∙ space-Bundle base values)) (values_ready t pairs values form are closed)

@@ -1,3 +1,4 @@
+pub mod BuiltSpaces
 pub mod ReplyParts
 pub mod ReplyCycles
 pub mod ReplySplits
@@ -62,3 +63,4 @@ pub mod OnePair
 pub mod PairValues
 pub mod BaseTold
 pub mod BundleParts
+pub mod BundlesTold

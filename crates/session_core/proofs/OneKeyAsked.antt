@@ -1,6 +1,6 @@
 -- A question of one key.
 use Rattle.std.proofs.Common.{◌≡◌, ℕ, zero, suc, ◌≤◌, All, List, [], ◌∷◌, Option, Some, None, Result, Ok, Err, refl, sym, ap, subst, arith}
-use Rattle.std.specs.Prelude.{Contains, is_ok}
+use Rattle.std.specs.Prelude.{Contains, is_ok, max}
 use Rattle.std.specs.declared.alloc.AllocError.{AllocError}
 use Rattle.fp_field.specs.declared.prime.Prime.{Prime}
 use Rattle.spaces.specs.Spaces.{Space, table, sphere, product, suspension, kz1, bundle, loops, paths, kzm1, cyclic_bundle}
@@ -15,15 +15,16 @@ use Rattle.oracle_iface.specs.Forcing.{Calls}
 use Rattle.oracle_iface.specs.Keys.{key_of}
 use Rattle.oracle_iface.proofs.Named.{term-back}
 use Rattle.homology_rules.specs.Asking.{outcome_of, refusal_in, up_to_refusal}
-use Rattle.susp_rules.specs.Treated.{IsAnswered, IsTreated}
+use Rattle.susp_rules.specs.Treated.{IsTreated}
+use Rattle.normal_forms.specs.Built.{IsBuilt}
 use Rattle.session_core.specs.Asked.{AnswersAll, AsksKeys, KeysBegin, nothing_asked, asked_now}
 use Rattle.session_core.specs.Telling.{cycles_key}
 use Rattle.session_core.specs.Whole.{IsReady}
 
-pub no_loopings : (X : Space) → IsAnswered X → loopings X ≡ 0
+pub no_loopings : (X : Space) → IsBuilt X → loopings X ≡ 0
 no_loopings (table t) built = refl
 no_loopings (sphere m) built = refl
-no_loopings (product a b) built = absurd built
+no_loopings (product a b) built = λ i. max (no_loopings a built.0 i) (no_loopings b built.1 i)
 no_loopings (suspension a) built = no_loopings a built
 no_loopings kz1 built = refl
 no_loopings (bundle t c) built = refl

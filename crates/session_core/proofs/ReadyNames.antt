@@ -4,7 +4,7 @@ use Rattle.std.proofs.lemmas.Bool.{cases_lt}
 use Rattle.simp_ops.proofs.PlacesOf.{is_eq, is_lt}
 use Rattle.spaces.specs.Spaces.{table}
 use Rattle.term_lang.specs.declared.terms.Term.{Term}
-use Rattle.term_lang.specs.declared.terms.Term.TheVariants.{Sphere as SphereTerm, Suspension as SuspensionTerm, KZ1 as KZ1Term}
+use Rattle.term_lang.specs.declared.terms.Term.TheVariants.{Sphere as SphereTerm, Product as ProductTerm, Suspension as SuspensionTerm, KZ1 as KZ1Term}
 use Rattle.term_lang.specs.declared.texts.RowText.{RowText}
 use Rattle.term_lang.specs.SpaceOf.{space_of}
 use Rattle.term_lang.specs.TermFaults.{Fault, own_fault}
@@ -16,14 +16,17 @@ use Rattle.finite_sets.proofs.TableFaults.{table_from}
 use Rattle.oracle_iface.specs.Terms.{term_of}
 use Rattle.script_lang.specs.declared.commands.Command.{Command}
 use Rattle.script_lang.specs.declared.commands.Command.TheVariants as commands
+use Rattle.script_lang.specs.declared.exprs.PairText.{PairText}
 use Rattle.script_lang.specs.declared.exprs.Expr.{Expr, roll-Expr, map-Expr, ind-Expr}
 use Rattle.script_lang.specs.declared.exprs.Expr.TheOpen.{Expr-F}
 use Rattle.reply_text.specs.declared.refusals.Refusal.TheVariants as refusals
-use Rattle.session_core.specs.Answer.{Names, State, Told, told, refused, ◌>>◌, Replied, is_name, lookup, defined, named_space, table_refusal, told_table, told_sphere, term_refusal, told_suspension, space_step, told_space, answer}
+use Rattle.session_core.specs.Answer.{Names, State, Told, told, refused, ◌>>◌, Replied, is_name, lookup, defined, named_space, table_refusal, told_table, told_sphere, term_refusal, told_product, told_suspension, told_bundle, space_step, told_space, answer}
 use Rattle.session_core.specs.Kept.{is_question}
 use Rattle.session_core.specs.Lines.{answer_told, told_line, answer_bytes}
 use Rattle.session_core.specs.Whole.{IsReady, AreReady, IsWhole}
 use Rattle.session_core.proofs.Layers.{rolled}
+use Rattle.session_core.proofs.BundlesTold.{bundle_is_ready}
+use Rattle.session_core.proofs.ProductFaults.{ready_product}
 use Rattle.session_core.proofs.SuspensionFaults.{ready_suspension}
 use Rattle.session_core.proofs.TableNames.{table-named}
 use Rattle.session_core.proofs.Unchanged.{Each, each-answer, question-same, field-names}
@@ -110,6 +113,25 @@ ready-suspension (told part) h = by (own_fault (space_of (SuspensionTerm part)))
     by (Some fault) e = tt
     by None e = ready_suspension part h e
 
+-- a product that is told of parts that are ready
+ready-product : (m l : Told Term) → Ready m → Ready l → Ready (told_product m l)
+ready-product (refused r) l h k = tt
+ready-product (told left) (refused r) h k = tt
+ready-product (told left) (told right) h k = by (own_fault (space_of (ProductTerm left right))) refl
+  where
+    by : (o : Fault) → own_fault (space_of (ProductTerm left right)) ≡ o → Ready (elim o [ Some fault ↦ refused (term_refusal fault) | None ↦ told (ProductTerm left right) ])
+    by (Some fault) e = tt
+    by None e = ready_product left right h k e
+
+ready-told : (m : Told Term) → ((t : Term) → m ≡ told t → IsReadyTerm t) → Ready m
+ready-told (told t) h = h t refl
+ready-told (refused r) h = tt
+
+-- a bundle that is told over a base that is ready
+ready-bundle : (pairs : List PairText) (m : Told Term) → Ready m → Ready (told_bundle pairs m)
+ready-bundle pairs (refused r) h = tt
+ready-bundle pairs (told base) h = ready-told (told_bundle pairs (told base)) (bundle_is_ready pairs base h)
+
 pub ready_integers : IsReadyTerm KZ1Term
 ready_integers = subst IsReady (sym space-KZ1) ((tt, omega arith), tt)
 
@@ -119,12 +141,12 @@ module _ (names : Names) (h : AreReady names) where
     ready-step (Expr-F.Name name) = ready-named names name h
     ready-step (Expr-F.Sphere n) = ready-sphere n
     ready-step (Expr-F.Table rows) = ready-table rows
-    ready-step (Expr-F.Product a b) = tt
+    ready-step (Expr-F.Product a b) = ready-product (told_space names (f a)) (told_space names (f b)) (part a) (part b)
     ready-step (Expr-F.Suspension a) = ready-suspension (told_space names (f a)) (part a)
     ready-step Expr-F.KZ1 = ready_integers
     ready-step (Expr-F.Loop a) = tt
     ready-step (Expr-F.Path a) = tt
-    ready-step (Expr-F.Bundle a values) = tt
+    ready-step (Expr-F.Bundle a pairs) = ready-bundle pairs (told_space names (f a)) (part a)
 
     ready-level : (y : Expr-F S) → Ready (told_space names (roll-Expr (map-Expr S Expr f y)))
     ready-level y = subst Ready (sym (rolled names (map-Expr S Expr f y))) (ready-step y)

@@ -23,7 +23,7 @@ use Rattle.oracle_iface.specs.declared.bodies.Kind.{Kind}
 use Rattle.oracle_iface.specs.Keys.{quote_chain}
 use Rattle.oracle_iface.specs.CodeSizes.{terms_size}
 use Rattle.oracle_iface.specs.Limits.{kind_past}
-use Rattle.susp_rules.specs.Treated.{IsAnswered, answered_built}
+use Rattle.normal_forms.specs.Built.{IsBuilt}
 use Rattle.normal_forms.proofs.BuiltForms.{built_cells}
 use Rattle.homology_laws.proofs.CellChains.{plain-chain, plain-d, d-cells, no-boundary}
 use Rattle.script_lang.specs.declared.commands.Command.TheVariants as commands
@@ -52,7 +52,7 @@ module _ (p : Prime) (t : Term) (n : ℕ) where
       by (Some past) h = absurd (not-told _ d h)
       by None h = sym (same-told _ d h)
 
-module _ (p : Prime) (t : Term) (is : IsAllowed (space_of t)) (built : IsAnswered (space_of t)) where
+module _ (p : Prime) (t : Term) (is : IsAllowed (space_of t)) (built : IsBuilt (space_of t)) where
   abbrev X : Space
   X = space_of t
 
@@ -74,7 +74,7 @@ module _ (p : Prime) (t : Term) (is : IsAllowed (space_of t)) (built : IsAnswere
       let b = boundary_of p t (suc m) z in
       let cells_in = boundary-cells m z h in
       let stands : simplices_of X (quote_chain X b) ≡ plain_chain q X b =
-      quoted-simplices q X (built_cells X is (answered_built X built)) b (shown-cells q X (built_cells X is (answered_built X built)) m (omega arith) b cells_in) in
+      quoted-simplices q X (built_cells X is built) b (shown-cells q X (built_cells X is built) m (omega arith) b cells_in) in
       subst (λ d. IsBoundaryOf q X (suc m) d chain) (sym stands) (
         plain-chain (set_of X) set_laws q (number_pos p) m b cells_in,
         λ k g. normal-plain q X m (extend (cell_d q X) z) k g

@@ -16,7 +16,7 @@ use Rattle.values.specs.Values.{value}
 use Rattle.values.specs.Laws.{smalls, maps_of, plain_chain}
 use Rattle.values.specs.Cycles.{coordinates, is_small_cycle}
 use Rattle.values.proofs.Readings.{value_with-bind}
-use Rattle.susp_rules.specs.Treated.{IsAnswered}
+use Rattle.normal_forms.specs.Built.{IsBuilt}
 use Rattle.homology_laws.specs.Lists.{is_boundary, homology_vectors}
 use Rattle.homology_laws.specs.Kernel.{IsListable}
 use Rattle.homology_laws.proofs.Sums.{map-map}
@@ -115,7 +115,7 @@ module _ (p : ℕ) (field : IsField p) (a : Space) (n : ℕ) (is : IsListable p 
 
 -- ---- the reply
 
-module _ (p : ℕ) (field : IsField p) (a : Space) (is : IsAllowed a) (built : IsAnswered a) where
+module _ (p : ℕ) (field : IsField p) (a : Space) (is : IsAllowed a) (built : IsBuilt a) where
   are-dimensions : (n k : ℕ) → AreDimensions p a n (map (λ n. value_with (value p) (dimension_in p a n)) (degrees_from p a n k))
   are-dimensions n zero = tt
   are-dimensions n (suc k) =

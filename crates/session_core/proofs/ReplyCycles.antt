@@ -16,10 +16,9 @@ use Rattle.values.specs.Asks.{cycles, ask, Cell as GradedCell}
 use Rattle.values.specs.Values.{value}
 use Rattle.values.specs.Laws.{cells, plain_chain}
 use Rattle.values.proofs.BasesCells.{basis-degree, basis-rising}
-use Rattle.values.proofs.BasesRows.{simple-given_back}
 use Rattle.oracle_iface.specs.Keys.{quote_chain}
 use Rattle.oracle_iface.specs.KeyLaws.{HasCells, IsShown}
-use Rattle.susp_rules.specs.Treated.{IsAnswered, answered_built}
+use Rattle.normal_forms.specs.Built.{IsBuilt}
 use Rattle.space_faces.specs.Boundaries.{graded}
 use Rattle.normal_forms.proofs.BuiltForms.{built_cells}
 use Rattle.space_faces.proofs.ShownChains.{chain_back}
@@ -27,7 +26,6 @@ use Rattle.homology_laws.specs.Lists.{IsCycleOf}
 use Rattle.homology_laws.specs.Kernel.{IsListable}
 use Rattle.homology_laws.proofs.Sums.{Each-weaker, map-map}
 use Rattle.homology_laws.proofs.Kernel.{listed-homology, listed-cells}
-use Rattle.susp_rules.proofs.BuiltSpaces.{built_simple, built_reduction}
 use Rattle.script_lang.specs.declared.commands.Command.TheVariants as commands
 use Rattle.script_lang.specs.declared.exprs.Expr.{Expr}
 use Rattle.reply_text.specs.declared.replies.Reply.{Reply}
@@ -37,6 +35,7 @@ use Rattle.cells.specs.declared.cells.Cell.{Cell}
 use Rattle.session_core.specs.Answer.{State, told, Replied, told_space, told_degree, told_value, printed, answer}
 use Rattle.session_core.specs.Replies.{simplices_of, IsHomologyReply}
 use Rattle.session_core.specs.Whole.{IsReady, IsWhole}
+use Rattle.session_core.proofs.BuiltSpaces.{built_reduction, built_given}
 use Rattle.session_core.proofs.ReadyNames.{Ready, ready-space}
 use Rattle.session_core.proofs.Unchanged.{each-answer}
 use Rattle.session_core.proofs.ReplyParts.{each-told, degree-told, value-told}
@@ -47,13 +46,13 @@ use Rattle.session_core.proofs.ReplyParts.{each-told, degree-told, value-told}
 pub ready-told : (s : State) → IsWhole s → (e : Expr) (t : Term) → told_space s.names e ≡ told t → IsReady (space_of t)
 ready-told s whole e t here = subst Ready here (ready-space s.names whole e)
 
-pub built-listable : (p : ℕ) → IsField p → (a : Space) (n : ℕ) → IsAllowed a → IsAnswered a → IsListable p a n
+pub built-listable : (p : ℕ) → IsField p → (a : Space) (n : ℕ) → IsAllowed a → IsBuilt a → IsListable p a n
 built-listable p field a n is built = record {
   allowed = is;
   reduction = built_reduction p field a is built (suc n);
   here = record { degrees = basis-degree p a n; rises = basis-rising p a n };
   above = record { degrees = basis-degree p a (suc n); rises = basis-rising p a (suc n) };
-  given = simple-given_back p (cycles a n) (built_simple a built);
+  given = built_given p a n built;
 }
 
 -- ---- chains of cells, as the code has them
@@ -71,7 +70,7 @@ module _ (p : ℕ) (a : Space) (has : HasCells a) where
 
 -- ---- homology
 
-module _ (p : Prime) (t : Term) (is : IsAllowed (space_of t)) (built : IsAnswered (space_of t)) (n : ℕ) (low : n ≤ 16) where
+module _ (p : Prime) (t : Term) (is : IsAllowed (space_of t)) (built : IsBuilt (space_of t)) (n : ℕ) (low : n ≤ 16) where
   abbrev X : Space
   X = space_of t
 
@@ -82,7 +81,7 @@ module _ (p : Prime) (t : Term) (is : IsAllowed (space_of t)) (built : IsAnswere
       → map (λ (z : Formal Cell). simplices_of X z.terms) (map (printed p t n) zs) ≡ map (plain_chain q X) zs
   printed-list [] h = refl
   printed-list (z ∷ zs) h =
-      λ i. quoted-simplices q X (built_cells X is (answered_built X built)) z (shown-cells q X (built_cells X is (answered_built X built)) n (omega arith) z h.0.chain) i ∷ printed-list zs h.1 i
+      λ i. quoted-simplices q X (built_cells X is built) z (shown-cells q X (built_cells X is built) n (omega arith) z h.0.chain) i ∷ printed-list zs h.1 i
 
   -- the listed cycles as they are printed
   pub printed-cycles : map (λ (z : Formal Cell). simplices_of X z.terms) (map (printed p t n) (value q (cycles X n))) ≡ map (plain_chain q X) (value q (cycles X n))

@@ -29,7 +29,6 @@ use Rattle.values.specs.Asks.{cycles, ask, Cell as GradedCell}
 use Rattle.values.specs.Values.{value}
 use Rattle.values.specs.Laws.{cells, cell_d, plain_chain}
 use Rattle.oracle_iface.specs.Keys.{quote_chain}
-use Rattle.susp_rules.specs.Treated.{answered_built}
 use Rattle.normal_forms.proofs.BuiltForms.{built_cells}
 use Rattle.homology_laws.specs.Lists.{IsCycleOf}
 use Rattle.homology_laws.specs.Kernel.{IsFilledBy, listed_cycles}
@@ -212,8 +211,8 @@ module _ (s : State) (e : Expr) (n : ℕ) (text : ChainText) where
       ∙ ap (λ b. quote_chain X (shown q X n z b)) (rest-is q (is_field s.prime) X n listable z cycle once.0 once.1 once.2) in
       let stands : simplices_of X d.terms ≡ plain_chain q X (shown q X n z once.1) =
       ap (simplices_of X) seen
-      ∙ quoted-simplices q X (built_cells X is (answered_built X built)) (shown q X n z once.1)
-      (shown-cells q X (built_cells X is (answered_built X built)) (suc n) (omega (arith, g.0)) (shown q X n z once.1) (shown-in q (is_field s.prime) X n listable z cycle once.0 once.1 once.2)) in
+      ∙ quoted-simplices q X (built_cells X is built) (shown q X n z once.1)
+      (shown-cells q X (built_cells X is built) (suc n) (omega (arith, g.0)) (shown q X n z once.1) (shown-in q (is_field s.prime) X n listable z cycle once.0 once.1 once.2)) in
       let listed = printed-cycles s.prime t is built n g.0 in record {
         space = g.1.space;
         degree = g.0;

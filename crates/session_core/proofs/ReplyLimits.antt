@@ -1,5 +1,5 @@
 -- Questions about homology are answered: no value of a table or a sphere is past a limit.
-use Rattle.std.proofs.Common.{◌≡◌, ℕ, zero, suc, ◌-◌, ◌≤◌, Bool, false, nat_lt, List, [], ◌∷◌, map, length, Some, None, refl, sym, ◌∙◌, ap, subst, arith}
+use Rattle.std.proofs.Common.{◌≡◌, ℕ, zero, suc, ◌-◌, ◌≤◌, Bool, false, ◌||◌, nat_lt, List, [], ◌∷◌, map, length, Some, None, refl, sym, ◌∙◌, ap, subst, arith}
 use Rattle.std.proofs.lemmas.Bool.Decides.{nat_tests}
 use Rattle.std.specs.List.{AllByRecursion as EachOf}
 use Rattle.fp_field.specs.declared.prime.Prime.{Prime}
@@ -14,7 +14,7 @@ use Rattle.spaces.specs.SmallCells.{Small, small_cmp}
 use Rattle.spaces.specs.Orders.{ordered, by_degree}
 use Rattle.cells.specs.declared.cells.Cell.{Cell}
 use Rattle.term_lang.specs.declared.terms.Term.{Term}
-use Rattle.term_lang.specs.declared.terms.Term.TheVariants.{Suspension as SuspensionTerm}
+use Rattle.term_lang.specs.declared.terms.Term.TheVariants.{Product as ProductTerm, Suspension as SuspensionTerm}
 use Rattle.term_lang.specs.SpaceOf.{space_of}
 use Rattle.values.specs.Asks.{Ask, Answer, basis, small_d, f as f_at, g as g_at, h as h_at, cycles, Right, gives, asks, ask, each, across, ◌>>=◌, value_with, asked_with}
 use Rattle.values.specs.Values.{value, right_side}
@@ -37,7 +37,7 @@ use Rattle.script_lang.specs.declared.exprs.Expr.TheOpen.{Expr-F}
 use Rattle.reply_text.specs.declared.refusals.Refusal.TheVariants as refusals
 use Rattle.reply_text.specs.declared.replies.Reply.TheVariants as replies
 use Rattle.session_core.specs.Questions.{differentials, dimension_in, degrees_from, dimensions}
-use Rattle.session_core.specs.Answer.{Names, State, Told, told, told_space, told_degree, told_unless, told_value, told_whole, printed, unbuilt_step, is_unbuilt, space_step, answer}
+use Rattle.session_core.specs.Answer.{Names, State, Told, told, ◌>>◌, told_bundle, told_space, told_degree, told_unless, told_value, told_whole, printed, unbuilt_step, is_unbuilt, space_step, answer}
 use Rattle.session_core.specs.Whole.{IsReady, IsWhole, HasRows}
 use Rattle.session_core.proofs.Layers.{rolled, rolled_unbuilt, told-first}
 use Rattle.session_core.proofs.ReplyParts.{told_from, answer-told, not-told, told-parts}
@@ -225,13 +225,17 @@ module _ (names : Names) where
     built-step (Expr-F.Name name) t k = refl
     built-step (Expr-F.Sphere n) t k = refl
     built-step (Expr-F.Table rows) t k = refl
-    built-step (Expr-F.Product a b) t k = absurd (not-told refusals.NotBuilt t k)
+    built-step (Expr-F.Product a b) t k =
+        let first = told-parts (told_space names (f a)) (λ x. told_space names (f b) >> λ y. told_whole (ProductTerm x y)) t k in
+        let second = told-parts (told_space names (f b)) (λ y. told_whole (ProductTerm first.0 y)) t first.2 in
+        λ i. part a first.0 first.1 i || part b second.0 second.1 i
     built-step (Expr-F.Suspension a) t k =
         let first = told-parts (told_space names (f a)) (λ x. told_whole (SuspensionTerm x)) t k in part a first.0 first.1
     built-step Expr-F.KZ1 t k = refl
     built-step (Expr-F.Loop a) t k = absurd (not-told refusals.NotBuilt t k)
     built-step (Expr-F.Path a) t k = absurd (not-told refusals.NotBuilt t k)
-    built-step (Expr-F.Bundle a values) t k = absurd (not-told refusals.NotBuilt t k)
+    built-step (Expr-F.Bundle a pairs) t k =
+        let first = told-parts (told_space names (f a)) (λ x. told_bundle pairs (told x)) t k in part a first.0 first.1
 
     built-level : (y : Expr-F S) → IsBuiltIfTold (roll-Expr (map-Expr S Expr f y))
     built-level y t h = rolled_unbuilt (map-Expr S Expr f y) ∙ built-step y t (sym (rolled names (map-Expr S Expr f y)) ∙ h)

@@ -20,7 +20,7 @@ use Rattle.term_lang.specs.SpaceOf.{space_of}
 use Rattle.values.specs.Asks.{Cell as GradedCell}
 use Rattle.values.specs.Laws.{cells, plain_chain}
 use Rattle.oracle_iface.specs.declared.bodies.Kind.{Kind}
-use Rattle.susp_rules.specs.Treated.{IsAnswered}
+use Rattle.normal_forms.specs.Built.{IsBuilt}
 use Rattle.homology_laws.proofs.Kernel.{degree-apart}
 use Rattle.homology_laws.proofs.CellChains.{weigh-plain, placed, up, keep-cells, plain-up}
 use Rattle.script_lang.specs.declared.simplices.TermText.{TermText}
@@ -75,7 +75,7 @@ module _ (p : Prime) (t : Term) (n : ℕ) where
     pub cells_are : c ≡ placed n (keep (λ y. not (is_degenerate (set_of X) n y)) chain)
     pub within : IsChain (set_of X) q n chain
 
-  module _ (is : IsAllowed X) (built : IsAnswered X) where
+  module _ (is : IsAllowed X) (built : IsBuilt X) where
     one-more : (x : Plain X) (r : ℤ) (c : Terms (Plain X)) (b : Bool) → is_degenerate (set_of X) n x ≡ b
         → term_at p t n x r ++ placed n (keep (λ y. not (is_degenerate (set_of X) n y)) c)
         ≡ placed n (keep (λ y. not (is_degenerate (set_of X) n y)) ((x, residue q r) ∷ c))

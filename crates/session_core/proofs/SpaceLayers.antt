@@ -1,5 +1,5 @@
 -- Spaces as they are told, for each way to write one.
-use Rattle.std.proofs.Common.{◌≡◌, ℕ, true, false, List, sym, ◌∙◌, ap}
+use Rattle.std.proofs.Common.{◌≡◌, ℕ, true, false, ◌||◌, List, sym, ◌∙◌, ap}
 use Rattle.term_lang.specs.declared.terms.Term.TheVariants.{KZ1 as KZ1Term}
 use Rattle.term_lang.specs.declared.texts.RowText.{RowText}
 use Rattle.script_lang.specs.declared.exprs.PairText.{PairText}
@@ -7,7 +7,7 @@ use Rattle.script_lang.specs.declared.exprs.Expr.{Expr}
 use Rattle.script_lang.specs.declared.exprs.Expr.TheVariants.{Name, Sphere, Product, Suspension, KZ1, Loop, Path, Bundle, Table, rolls-Name, rolls-Sphere, rolls-Product, rolls-Suspension, rolls-KZ1, rolls-Loop, rolls-Path, rolls-Bundle, rolls-Table}
 use Rattle.script_lang.specs.declared.exprs.Expr.TheOpen.{Expr-F}
 use Rattle.reply_text.specs.declared.refusals.Refusal.TheVariants.{NotBuilt}
-use Rattle.session_core.specs.Answer.{Names, told, refused, is_unbuilt, named_space, told_sphere, told_table, told_suspension, told_space}
+use Rattle.session_core.specs.Answer.{Names, told, refused, is_unbuilt, named_space, told_sphere, told_table, told_product, told_suspension, told_bundle, told_space}
 use Rattle.session_core.proofs.Layers.{rolled, rolled_unbuilt}
 
 module _ (names : Names) where
@@ -20,7 +20,7 @@ module _ (names : Names) where
   pub space_table : (rows : List RowText) → told_space names (Table rows) ≡ told_table rows
   space_table rows = ap (told_space names) (sym (rolls-Table rows)) ∙ rolled names (Expr-F.Table rows)
 
-  pub space_product : (a b : Expr) → told_space names (Product a b) ≡ refused NotBuilt
+  pub space_product : (a b : Expr) → told_space names (Product a b) ≡ told_product (told_space names a) (told_space names b)
   space_product a b = ap (told_space names) (sym (rolls-Product a b)) ∙ rolled names (Expr-F.Product a b)
 
   pub space_suspension : (a : Expr) → told_space names (Suspension a) ≡ told_suspension (told_space names a)
@@ -35,8 +35,8 @@ module _ (names : Names) where
   pub space_path : (a : Expr) → told_space names (Path a) ≡ refused NotBuilt
   space_path a = ap (told_space names) (sym (rolls-Path a)) ∙ rolled names (Expr-F.Path a)
 
-  pub space_bundle : (a : Expr) (values : List PairText) → told_space names (Bundle a values) ≡ refused NotBuilt
-  space_bundle a values = ap (told_space names) (sym (rolls-Bundle a values)) ∙ rolled names (Expr-F.Bundle a values)
+  pub space_bundle : (a : Expr) (pairs : List PairText) → told_space names (Bundle a pairs) ≡ told_bundle pairs (told_space names a)
+  space_bundle a pairs = ap (told_space names) (sym (rolls-Bundle a pairs)) ∙ rolled names (Expr-F.Bundle a pairs)
 
 pub unbuilt_name : (name : List ℕ) → is_unbuilt (Name name) ≡ false
 unbuilt_name name = ap is_unbuilt (sym (rolls-Name name)) ∙ rolled_unbuilt (Expr-F.Name name)
@@ -47,7 +47,7 @@ unbuilt_sphere n = ap is_unbuilt (sym (rolls-Sphere n)) ∙ rolled_unbuilt (Expr
 pub unbuilt_table : (rows : List RowText) → is_unbuilt (Table rows) ≡ false
 unbuilt_table rows = ap is_unbuilt (sym (rolls-Table rows)) ∙ rolled_unbuilt (Expr-F.Table rows)
 
-pub unbuilt_product : (a b : Expr) → is_unbuilt (Product a b) ≡ true
+pub unbuilt_product : (a b : Expr) → is_unbuilt (Product a b) ≡ (is_unbuilt a || is_unbuilt b)
 unbuilt_product a b = ap is_unbuilt (sym (rolls-Product a b)) ∙ rolled_unbuilt (Expr-F.Product a b)
 
 pub unbuilt_suspension : (a : Expr) → is_unbuilt (Suspension a) ≡ is_unbuilt a
@@ -62,5 +62,5 @@ unbuilt_loop a = ap is_unbuilt (sym (rolls-Loop a)) ∙ rolled_unbuilt (Expr-F.L
 pub unbuilt_path : (a : Expr) → is_unbuilt (Path a) ≡ true
 unbuilt_path a = ap is_unbuilt (sym (rolls-Path a)) ∙ rolled_unbuilt (Expr-F.Path a)
 
-pub unbuilt_bundle : (a : Expr) (values : List PairText) → is_unbuilt (Bundle a values) ≡ true
-unbuilt_bundle a values = ap is_unbuilt (sym (rolls-Bundle a values)) ∙ rolled_unbuilt (Expr-F.Bundle a values)
+pub unbuilt_bundle : (a : Expr) (pairs : List PairText) → is_unbuilt (Bundle a pairs) ≡ is_unbuilt a
+unbuilt_bundle a pairs = ap is_unbuilt (sym (rolls-Bundle a pairs)) ∙ rolled_unbuilt (Expr-F.Bundle a pairs)

@@ -29,7 +29,6 @@ use Rattle.script_lang.proofs.ResolveSpaces.{meant_in}
 use Rattle.space_faces.specs.Boundaries.{IsBounded}
 use Rattle.space_faces.specs.CodeBoundaries.{kept}
 use Rattle.space_faces.proofs.FaceSteps.{no_mask_form, kept_cell, kept_none}
-use Rattle.susp_rules.specs.Treated.{answered_built}
 use Rattle.normal_forms.proofs.BuiltForms.{built_forms, built_cells}
 use Rattle.session_core.specs.Whole.{IsReady}
 
@@ -55,7 +54,7 @@ integer_within a b e = by (cases_lt 100000 b) (nat_lt 64 a) e
 module _ (X : Space) (ready : IsReady X) (n : ℕ) where
   -- what a text means is a simplex of the degree
   pub meant : (text : SimplexText) (y : Plain X) → meaning text X n ≡ Some y → (set_of X).In n y
-  meant text y e = meant_in X (answered_built X ready.1) ready.0.0 text n y e
+  meant text y e = meant_in X ready.1 ready.0.0 text n y e
 
   -- the terms of a simplex that is not degenerate
   abbrev pub terms_of : Plain X → ℕ → Terms (GradedCell X)
@@ -66,10 +65,10 @@ module _ (X : Space) (ready : IsReady X) (n : ℕ) where
     low = omega arith
 
     forms : HasNormalForms X n
-    forms = built_forms X ready.0 (answered_built X ready.1) n low
+    forms = built_forms X ready.0 ready.1 n low
 
     cells : HasNormalCells X n
-    cells = built_cells X ready.0 (answered_built X ready.1) n low
+    cells = built_cells X ready.0 ready.1 n low
 
     simplex : IsSimplex X n (quote X n y)
     simplex = forms.onto y inside

@@ -19,7 +19,6 @@ use Rattle.homology_rules.specs.Asking.{first_refusal, up_to_refusal, AskedFirst
 use Rattle.homology_rules.specs.Shown.{HasShownValues}
 use Rattle.homology_rules.proofs.Alike.{Alike}
 use Rattle.homology_rules.proofs.CyclesRead.{quoted, quoted-none, quoted-some, refusals}
-use Rattle.susp_rules.proofs.BuiltSpaces.{shown_built}
 use Rattle.homology_rules.proofs.Through.{through-whole}
 use Rattle.session_core.specs.declared.answered.Answered.{Answered}
 use Rattle.session_core.specs.declared.answered.Answered.TheVariants.{Told as IsTold, Over as IsRefused}
@@ -29,6 +28,7 @@ use Rattle.session_core.specs.Telling.{refused_by}
 use Rattle.session_core.specs.Whole.{IsReady}
 use Rattle.session_core.specs.Along.{ComesAlong}
 use Rattle.session_core.specs.Dimensions.{key_about}
+use Rattle.session_core.proofs.BuiltSpaces.{shown_built}
 
 module _ (p : Prime) (t : Term) (n : ℕ) {A : Type 0} (right : Right A) (back : Every (IsReadBack p) (asked_with (value (number p)) right)) where
   abbrev given : A

@@ -28,7 +28,6 @@ use Rattle.script_lang.specs.Meaning.{meaning}
 use Rattle.script_lang.specs.Resolved.{IsRead}
 use Rattle.space_faces.specs.Boundaries.{IsBounded}
 use Rattle.space_faces.specs.CodeBoundaries.{kept}
-use Rattle.susp_rules.specs.Treated.{answered_built}
 use Rattle.normal_forms.proofs.BuiltForms.{built_cells}
 use Rattle.reply_text.specs.declared.refusals.Refusal.TheVariants as refusals
 use Rattle.session_core.specs.declared.stops.Stop.{Stop}
@@ -172,7 +171,7 @@ module _ (p : Prime) (t : Term) (ready : IsReady (space_of t)) (n : ℕ) (most :
     ap (λ m. m >> λ d. told (normal (by_degree (ordered Y).cmp) (number p) d)) are.told_are,
     record {
       is =
-          let g = f ∙ ap (normal cell_cmp (number p)) are.pushed ∙ chain-cells Y (built_cells Y ready.0 (answered_built Y ready.1)) (number p) are.terms are.shown in
+          let g = f ∙ ap (normal cell_cmp (number p)) are.pushed ∙ chain-cells Y (built_cells Y ready.0 ready.1) (number p) are.terms are.shown in
           λ i. record { prime = e i; terms = g i };
       shown = normal-each (IsShown Y) are.terms are.shown;
       bounded = normal-each (IsBounded Y) are.terms are.bounded;

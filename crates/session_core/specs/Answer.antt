@@ -99,12 +99,12 @@ told_unless b r a = cond b (refused r) (told a)
 abbrev pub unbuilt_step : Expr-F Bool → Bool
 unbuilt_step (Expr-F.Name name) = false
 unbuilt_step (Expr-F.Sphere n) = false
-unbuilt_step (Expr-F.Product a b) = true
+unbuilt_step (Expr-F.Product a b) = a || b
 unbuilt_step (Expr-F.Suspension a) = a
 unbuilt_step Expr-F.KZ1 = false
 unbuilt_step (Expr-F.Loop a) = true
 unbuilt_step (Expr-F.Path a) = true
-unbuilt_step (Expr-F.Bundle a values) = true
+unbuilt_step (Expr-F.Bundle a pairs) = a
 unbuilt_step (Expr-F.Table rows) = false
 
 unfoldable pub is_unbuilt : Expr → Bool
@@ -169,10 +169,13 @@ told_bundle pairs base = base >> λ a. told_base a >> λ t. told_values t pairs 
 abbrev pub space_step : Names → Expr-F (Told Term) → Told Term
 space_step names (Expr-F.Name name) = named_space names name
 space_step names (Expr-F.Sphere n) = told_sphere n
+space_step names (Expr-F.Product a b) = told_product a b
 space_step names (Expr-F.Suspension a) = told_suspension a
 space_step names Expr-F.KZ1 = told KZ1Term
+space_step names (Expr-F.Loop a) = refused refusals.NotBuilt
+space_step names (Expr-F.Path a) = refused refusals.NotBuilt
+space_step names (Expr-F.Bundle a pairs) = told_bundle pairs a
 space_step names (Expr-F.Table rows) = told_table rows
-space_step names e = refused refusals.NotBuilt
 
 unfoldable pub told_space : Names → Expr → Told Term
 told_space names e = fold-Expr (Told Term) (space_step names) e

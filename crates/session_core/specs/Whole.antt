@@ -1,16 +1,16 @@
 -- The states of a session: each name stands for a space that is allowed and whose values the code computes.
 --
---   a state in which x stands for the sphere of dimension 2 is whole; with the sphere of dimension 17 it is not
+--   a state in which x stands for the product of two spheres of dimension 2 is whole; with the sphere of dimension 17 it is not
 use Rattle.std.specs.List.{AllByRecursion}
 use Rattle.spaces.specs.Allowed.{IsAllowed}
 use Rattle.spaces.specs.Spaces.{Space, table, sphere, product, suspension, kz1, bundle, loops, paths, kzm1, cyclic_bundle}
 use Rattle.term_lang.specs.SpaceOf.{space_of}
-use Rattle.susp_rules.specs.Treated.{IsAnswered}
+use Rattle.normal_forms.specs.Built.{IsBuilt}
 use Rattle.session_core.specs.Answer.{Names, State}
 
--- an allowed space that sessions answer for: a table, a sphere or K(Z,1), suspended any number of times
+-- an allowed space that sessions answer for: a table, a sphere, K(Z,1), a circle bundle, or what products and suspensions make of these
 abbrev pub IsReady : Space → Type 0
-IsReady X = IsAllowed X × IsAnswered X
+IsReady X = IsAllowed X × IsBuilt X
 
 abbrev pub AreReady : Names → Type 0
 AreReady names = AllByRecursion (λ n. IsReady (space_of n.1)) names

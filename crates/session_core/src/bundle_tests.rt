@@ -1,36 +1,18 @@
 // What is told of products and bundles as they are written: the tables and values are worked by hand.
-use crate::fibrations::{told_bundle, told_product};
 use crate::parts::told_space;
 use crate::session_names::SessionNames;
 use crate::stops::Stop;
 use reply_text::{Reply, reply_text};
-use script_lang::{Command, Expr, read_line};
+use script_lang::{Command, read_line};
 use seqs::Arc;
 use std::alloc::Global;
 use std::process::Abort;
 use term_lang::Term;
 
-// What is told of a space: a product or a bundle of parts that are neither.
-fn told_whole(alloc: Global, e: &Expr) -> Result<Arc<Term>, Stop> {
-    let names = SessionNames::new(alloc);
-    match e {
-        Expr::Product(a, b) => {
-            let left = told_space(alloc, &names, a.get())?;
-            let right = told_space(alloc, &names, b.get())?;
-            told_product(alloc, &left, &right)
-        }
-        Expr::Bundle(a, pairs) => {
-            let base = told_space(alloc, &names, a.get())?;
-            told_bundle(alloc, &base, pairs)
-        }
-        _ => told_space(alloc, &names, e),
-    }
-}
-
 // What is told of the space that a line `(setf x SPACE)` gives a name.
 fn told_in(rt: &impl Abort, alloc: Global, line: &str) -> Result<Arc<Term>, Stop> {
     match read_line(alloc, line.as_bytes()) {
-        Ok(Some(Command::Setf(_, e))) => told_whole(alloc, &e),
+        Ok(Some(Command::Setf(_, e))) => told_space(alloc, &SessionNames::new(alloc), &e),
         _ => panic!(rt; "no command: {line}"),
     }
 }

@@ -7,6 +7,7 @@ ghost use Rattle.term_lang.specs.declared.terms.Term.TheVariants.{Product as Pro
 ghost use Rattle.twist_maps.specs.Values.{AreValues, first_open};
 ghost use Rattle.session_core.specs.Answer.{told, told_whole, told_base, told_closed, told_bundle};
 ghost use Rattle.session_core.specs.Telling.{Stops};
+ghost use Rattle.session_core.specs.Whole.{IsReady};
 
 use crate::pairs::bundle_values;
 use crate::parts::term_refusal;
@@ -26,10 +27,10 @@ pub(crate) fn told_product(
     left: &Arc<Term>,
     right: &Arc<Term>,
 ) -> Result<Arc<Term>, Stop>
-    requires left { IsAllowed (space_of left.now) }
-    requires right { IsAllowed (space_of right.now) }
+    requires left { IsReady (space_of left.now) }
+    requires right { IsReady (space_of right.now) }
     ensures told { IfOk result (λ t. told_whole (ProductTerm left.now right.now) ≡ told t) }
-    ensures allowed { IfOk result (λ t. IsAllowed (space_of t)) }
+    ensures ready { IfOk result (λ t. IsReady (space_of t)) }
     ensures stops { IfErr result (λ s. Stops s (told_whole (ProductTerm left.now right.now))) }
 {
     let first = Box::new(alloc, copy_term(alloc, left.get())?)?;
@@ -48,9 +49,9 @@ pub(crate) fn told_bundle(
     part: &Arc<Term>,
     pairs: &PairTextList,
 ) -> Result<Arc<Term>, Stop>
-    requires { IsAllowed (space_of part.now) }
+    requires { IsReady (space_of part.now) }
     ensures told { IfOk result (λ t. told_bundle pairs.now (told part.now) ≡ told t) }
-    ensures allowed { IfOk result (λ t. IsAllowed (space_of t)) }
+    ensures ready { IfOk result (λ t. IsReady (space_of t)) }
     ensures stops { IfErr result (λ s. Stops s (told_bundle pairs.now (told part.now))) }
 {
     let base = told_base(alloc, part.get())?;

@@ -6,6 +6,7 @@ ghost use Rattle.session_core.specs.Answer.{told, is_unbuilt, table_refusal, nam
 ghost use Rattle.session_core.specs.Telling.{Stops};
 ghost use Rattle.session_core.specs.Whole.{IsReady};
 
+use crate::fibrations::{told_bundle, told_product};
 use crate::session_names::SessionNames;
 use crate::stops::Stop;
 use finite_sets::{TableFault, build_table};
@@ -23,12 +24,12 @@ pub(crate) fn is_unbuilt(e: &Expr) -> bool
     match e {
         Expr::Name(_) => false,
         Expr::Sphere(_) => false,
-        Expr::Product(_, _) => true,
+        Expr::Product(a, b) => is_unbuilt(a.get()) || is_unbuilt(b.get()),
         Expr::Suspension(a) => is_unbuilt(a.get()),
         Expr::KZ1 => false,
         Expr::Loop(_) => true,
         Expr::Path(_) => true,
-        Expr::Bundle(_, _) => true,
+        Expr::Bundle(a, _) => is_unbuilt(a.get()),
         Expr::Table(_) => false,
     }
 }
@@ -43,7 +44,13 @@ pub(crate) fn told_space(alloc: Global, names: &SessionNames, e: &Expr) -> Resul
     match e {
         Expr::Name(name) => named_space(names, name),
         Expr::Sphere(n) => told_sphere(alloc, *n),
-        Expr::Product(_, _) => Err(Stop::Refused(Refusal::NotBuilt)),
+        Expr::Product(a, b) => match told_space(alloc, names, a.get()) {
+            Ok(left) => match told_space(alloc, names, b.get()) {
+                Ok(right) => told_product(alloc, &left, &right),
+                Err(stop) => Err(stop),
+            },
+            Err(stop) => Err(stop),
+        },
         Expr::Suspension(a) => match told_space(alloc, names, a.get()) {
             Ok(part) => told_suspension(alloc, &part),
             Err(stop) => Err(stop),
@@ -51,7 +58,10 @@ pub(crate) fn told_space(alloc: Global, names: &SessionNames, e: &Expr) -> Resul
         Expr::KZ1 => told_integers(alloc),
         Expr::Loop(_) => Err(Stop::Refused(Refusal::NotBuilt)),
         Expr::Path(_) => Err(Stop::Refused(Refusal::NotBuilt)),
-        Expr::Bundle(_, _) => Err(Stop::Refused(Refusal::NotBuilt)),
+        Expr::Bundle(a, pairs) => match told_space(alloc, names, a.get()) {
+            Ok(part) => told_bundle(alloc, &part, pairs),
+            Err(stop) => Err(stop),
+        },
         Expr::Table(rows) => told_table(alloc, rows),
     }
 }

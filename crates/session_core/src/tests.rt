@@ -125,6 +125,31 @@ fn suspensions_of_integer_lists(rt: HostRuntime) {
 }
 
 #[test]
+fn boundaries_in_the_torus_and_in_a_bundle(rt: HostRuntime) {
+    let mut session = new_session(rt.alloc());
+    let lines = [
+        (
+            "(setf torus (crts-prdc (sphere 1) (sphere 1)))",
+            "defined torus\n",
+        ),
+        (
+            "(boundary torus 2 (1 <0:S1,1:S1>))",
+            "chain (1 <S1,S1>) (1 <S1,0:*>) (1 <0:*,S1>)\n",
+        ),
+        ("(boundary torus 1 (1 <S1,S1>))", "chain 0\n"),
+        ("(boundary torus 1 (1 <S1,S2>))", "error simplex 1\n"),
+        ("(setf lens (bundle (sphere 2) (S2 5)))", "defined lens\n"),
+        ("(boundary lens 2 (1 <S2,1-0:|>))", "chain (1 <0:*,|5|>)\n"),
+        (
+            "(setf x (crts-prdc lens (suspension torus)))",
+            "defined x\n",
+        ),
+        ("(names)", "names torus lens x\n"),
+    ];
+    answers(&rt, rt.alloc(), &mut session, &lines);
+}
+
+#[test]
 fn ended_session_answers_no_line(rt: HostRuntime) {
     let mut answerer = NoMemory { asked: false };
     let mut session = new_session(rt.alloc());

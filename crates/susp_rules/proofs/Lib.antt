@@ -5,4 +5,3 @@ pub mod UpQuotes
 pub mod RuleReads
 pub mod RuleLimits
 pub mod ShownSuspensions
-pub mod BuiltSpaces

@@ -1,7 +1,8 @@
 use Rattle.std.proofs.Common.{sym, ◌∙◌, subst}
 use Rattle.term_lang.specs.SpaceOf.{space_of}
-use Rattle.susp_rules.specs.Treated.{IsAnswered}
-use Rattle.rule_book.proofs.RuleAsks.{asks_nothing, built_term, integers-space, suspension-space, outcome-back, rows-table, rows-sphere}
+use Rattle.normal_forms.specs.Built.{IsBuilt}
+use Rattle.rule_book.proofs.RuleAsks.{asks_nothing, built_term, integers-space, suspension-space, product-space, bundle-space, rows-table, rows-sphere}
+use Rattle.rule_book.proofs.WithinLimits.{outcome-back}
 use Rattle.rule_book.proofs.rules.single_outcome.Goals as goal
 
 pub direct_outcome-requires-clause-key : goal.direct_outcome-requires-clause-key
@@ -29,7 +30,15 @@ rule-requires-in-Suspension-clause-space g c = suspension-space c.args.key.now c
 pub rule-requires-in-Suspension-clause-back : goal.rule-requires-in-Suspension-clause-back
 rule-requires-in-Suspension-clause-back g c = outcome-back c.args.key.now c.requires.key
 
+pub rule-requires-in-Product-clause-space : goal.rule-requires-in-Product-clause-space
+rule-requires-in-Product-clause-space g c =
+    product-space c.args.key.now c.in-Product.field-0 c.in-Product.field-1 c.requires.key (sym c.get.ensures ∙ c.in-Product.is)
+
+pub rule-requires-in-Bundle-clause-space : goal.rule-requires-in-Bundle-clause-space
+rule-requires-in-Bundle-clause-space g c =
+    bundle-space c.args.key.now c.in-Bundle.field-0 c.in-Bundle.field-1 c.requires.key (sym c.get.ensures ∙ c.in-Bundle.is)
+
 pub unreachable-requires : goal.unreachable-requires
 unreachable-requires g c =
-    built_term c.get.result.now (subst (λ t. IsAnswered (space_of t)) (sym c.get.ensures) c.requires.key.1) c.in_default.not-Table c.in_default.not-Sphere c.in_default.not-KZ1
-    c.in_default.not-Suspension
+    built_term c.get.result.now (subst (λ t. IsBuilt (space_of t)) (sym c.get.ensures) c.requires.key.1) c.in_default.not-Table c.in_default.not-Sphere c.in_default.not-KZ1
+    c.in_default.not-Suspension c.in_default.not-Product c.in_default.not-Bundle

@@ -1,13 +1,11 @@
 use Rattle.std.proofs.Common.{SFits, w64, rules, ◌∙◌, ap}
 use Rattle.std.proofs.lemmas.Int.{to_z-of_z}
 use Rattle.fp_field.specs.Field.{number, residue}
-use Rattle.term_lang.specs.SpaceOf.{space_of}
-use Rattle.susp_rules.specs.Treated.{answered_built}
 use Rattle.session_core.proofs.ToldTerms.{term_pushed}
 use Rattle.session_core.proofs.chains.push_term.Goals as goal
 
 pub resolve-requires-clause-built : goal.resolve-requires-clause-built
-resolve-requires-clause-built c = answered_built (space_of c.args.t.now) c.requires.ready.1
+resolve-requires-clause-built c = c.requires.ready.1
 
 pub returns-in_ok-push_kept-in-Ok-clause-told : goal.returns-in_ok-push_kept-in-Ok-clause-told
 returns-in_ok-push_kept-in-Ok-clause-told c =

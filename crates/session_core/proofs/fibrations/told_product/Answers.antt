@@ -3,7 +3,7 @@ use Rattle.term_lang.specs.declared.terms.Term.TheVariants.{Product as ProductTe
 use Rattle.term_lang.specs.SpaceOf.{space_of}
 use Rattle.term_lang.specs.TermFaults.{fault_of}
 use Rattle.session_core.specs.Answer.{refused}
-use Rattle.session_core.proofs.ProductFaults.{product_told, allowed_told, product_refused}
+use Rattle.session_core.proofs.ProductFaults.{product_told, product_ready, product_refused}
 use Rattle.session_core.proofs.fibrations.told_product.Goals.{In_ok-whole}
 use Rattle.session_core.proofs.fibrations.told_product.Goals as goal
 
@@ -17,9 +17,9 @@ returns-in-Ok-clause-told c =
     product_told c.args.left.now c.args.right.now c.requires.left c.requires.right c.in_ok-whole.whole (whole_is (goal.at.returns-in-Ok-clause-told c).In_ok-whole)
     (c.in-Ok.ensures.fault ∙ ap (λ t. fault_of (space_of t)) c.get-3.ensures)
 
-pub returns-in-Ok-clause-allowed : goal.returns-in-Ok-clause-allowed
-returns-in-Ok-clause-allowed c =
-    allowed_told c.args.left.now c.args.right.now c.requires.left c.requires.right c.in_ok-whole.whole (whole_is (goal.at.returns-in-Ok-clause-allowed c).In_ok-whole)
+pub returns-in-Ok-clause-ready : goal.returns-in-Ok-clause-ready
+returns-in-Ok-clause-ready c =
+    product_ready c.args.left.now c.args.right.now c.requires.left c.requires.right c.in_ok-whole.whole (whole_is (goal.at.returns-in-Ok-clause-ready c).In_ok-whole)
     (c.in-Ok.ensures.fault ∙ ap (λ t. fault_of (space_of t)) c.get-3.ensures)
 
 pub returns-in-Err-clause-stops : goal.returns-in-Err-clause-stops

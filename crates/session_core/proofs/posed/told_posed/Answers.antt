@@ -5,7 +5,6 @@ use Rattle.fp_field.specs.Chains.{EachKey}
 use Rattle.term_lang.specs.SpaceOf.{space_of}
 use Rattle.oracle_iface.specs.Keys.{quote_chain, formal}
 use Rattle.normal_forms.specs.Built.{IsBuilt}
-use Rattle.susp_rules.specs.Treated.{answered_built}
 use Rattle.space_faces.specs.Boundaries.{IsLowCell, graded_chain, boundary_of as d_of}
 use Rattle.session_core.specs.Answer.{told_chain as chain_by}
 use Rattle.session_core.specs.Posed.{told_posed as posed_by}
@@ -41,7 +40,7 @@ returns-in_err-cycle-clause-stops c =
 
 pub boundary-requires-clause-built : goal.boundary-requires-clause-built
 boundary-requires-clause-built c =
-    subst (λ t. IsBuilt (space_of t)) (sym c.get-2.ensures) (answered_built (space_of c.in_ok-spot.spot.term) c.in_ok-spot.ensures.ready.1)
+    subst (λ t. IsBuilt (space_of t)) (sym c.get-2.ensures) c.in_ok-spot.ensures.ready.1
 
 pub boundary-requires-clause-cells : goal.boundary-requires-clause-cells
 boundary-requires-clause-cells c =
