@@ -1,5 +1,104 @@
 // The sessions of examples/ and of the documents: name, what is typed, what is printed. Written by examples/embed.
-pub const EXAMPLES: [(&str, &str, &str); 33] = [
+pub const EXAMPLES: [(&str, &str, &str); 39] = [
+    (
+        "circle_bundles",
+        "; Circle bundles over the 2-sphere. The value 1 on its cell makes the 3-sphere, by the Hopf map.
+(setf hopf (bundle (sphere 2) (S2 1)))
+(betti hopf 0 4)
+(homology hopf 3)
+(homology hopf 0)
+
+; The fibre over the base point is a boundary in it.
+(express hopf 1 (1 <0:*,|1|>))
+(express hopf 1 (1 <0:*,|-1|>))
+
+; Without a value, or with the value 0, the bundle is the product with K(Z,1).
+(betti (bundle (sphere 2)) 0 3)
+(betti (bundle (sphere 2) (S2 0)) 0 3)
+(betti (crts-prdc (sphere 2) (k-z-1)) 0 3)
+
+; The value 2 makes the projective space of dimension 3, the value m a lens space with first homology of order m.
+(setf rp3 (bundle (sphere 2) (S2 2)))
+(betti rp3 0 3)
+(homology rp3 2)
+(boundary rp3 2 (1 <S2,1-0:|>))
+(setf lens3 (bundle (sphere 2) (S2 3)))
+(betti lens3 0 3)
+(field 3)
+(betti rp3 0 3)
+(betti lens3 0 3)
+(homology lens3 1)
+(express lens3 1 (1 <0:*,|2|>))
+
+; A value and its negative give the same numbers.
+(betti (bundle (sphere 2) (S2 -3)) 0 3)
+(field 2)
+(betti (bundle (sphere 2) (S2 -2)) 0 3)
+(betti (bundle (sphere 2) (S2 -3)) 0 3)
+
+; Over a torus with one cell of value 1, the bundle is a nilmanifold; with the sum 0 it is the torus of dimension 3.
+(setf torus (table (v) (a v v) (b v v) (c v v) (s b c a) (t a c b)))
+(setf nil (bundle torus (s 1)))
+(betti nil 0 4)
+(betti (bundle torus (s 1) (t 1)) 0 3)
+(setf nil2 (bundle torus (s 2)))
+(betti nil2 0 3)
+(field 3)
+(betti nil2 0 3)
+(betti nil 0 3)
+(homology nil 2)
+
+; Bundles in products.
+(betti (crts-prdc hopf (sphere 1)) 0 4)
+(betti (crts-prdc rp3 lens3) 0 6)
+",
+        "defined hopf
+betti 1 0 0 1 0
+homology 1
+(1 <0:S2,2-1:|1|>) (1 <1:S2,2-0:|1|>) (1 <2:S2,1-0:|1|>)
+homology 1
+(1 <*,|>)
+coefficients
+chain (1 <S2,1-0:|>)
+coefficients
+chain (1 <S2,1-0:|>) (1 <1-0:*,|1|-1|>)
+betti 1 1 1 1
+betti 1 1 1 1
+betti 1 1 1 1
+defined rp3
+betti 1 1 1 1
+homology 1
+(1 <S2,1-0:|>) (1 <1-0:*,|1|1|>)
+chain (1 <0:*,|2|>)
+defined lens3
+betti 1 0 0 1
+field 3
+betti 1 0 0 1
+betti 1 1 1 1
+homology 1
+(1 <0:*,|1|>)
+coefficients 2
+chain (2 <1-0:*,|1|1|>)
+betti 1 1 1 1
+field 2
+betti 1 1 1 1
+betti 1 0 0 1
+defined torus
+defined nil
+betti 1 2 2 1 0
+betti 1 3 3 1
+defined nil2
+betti 1 3 3 1
+field 3
+betti 1 2 2 1
+betti 1 2 2 1
+homology 2
+(2 <0:b,1:|1|>) (1 <1:b,0:|1|>)
+(2 <0:c,1:|1|>) (1 <1:c,0:|1|>)
+betti 1 1 0 1 1
+betti 1 1 1 2 1 1 1
+",
+    ),
     (
         "complex_projective_plane",
         "; The complex projective plane with 9 vertices, found by Kuehnel: 9, 36, 84, 90 and 36 simplices, 255 in all.
@@ -453,6 +552,93 @@ coefficients 5
 chain 0
 betti 1 0 1
 names circle s2 ball disc round sphere
+",
+    ),
+    (
+        "products",
+        "; The torus as a product of two circles. Its cells are pairs of simplices that are not degenerate at a common place.
+(setf torus (crts-prdc (sphere 1) (sphere 1)))
+(betti torus 0 3)
+(homology torus 2)
+(homology torus 1)
+(boundary torus 2 (1 <0:S1,1:S1>))
+
+; The diagonal is the sum of the two circles, up to a boundary, in either order of the triangles.
+(express torus 1 (1 <S1,S1>))
+(field 3)
+(homology torus 2)
+(express torus 1 (1 <S1,S1>))
+(express torus 2 (1 <0:S1,1:S1>) (2 <1:S1,0:S1>))
+
+; Products of spheres of different dimensions, and a product of three circles.
+(betti (crts-prdc (sphere 2) (sphere 3)) 0 6)
+(homology (crts-prdc (sphere 1) (sphere 2)) 3)
+(setf three (crts-prdc (sphere 1) torus))
+(betti three 0 4)
+(homology three 3)
+
+; Two projective planes: the classes of degree 1 and 2 multiply over F_2, and over other fields there is but a point.
+(setf rp2 (table (v) (e v v) (t e 0:v e)))
+(betti (crts-prdc rp2 rp2) 0 5)
+(field 2)
+(betti (crts-prdc rp2 rp2) 0 5)
+(homology (crts-prdc rp2 rp2) 1)
+
+; Factors may have infinitely many cells in a degree: K(Z,1) is a circle, and its square a torus.
+(setf kk (crts-prdc (k-z-1) (k-z-1)))
+(betti kk 0 3)
+(homology kk 1)
+(homology kk 2)
+(express kk 1 (1 <|2|,|3|>))
+(express kk 1 (1 <|-1|,0:|>))
+(field 5)
+(express kk 1 (1 <|2|,|3|>))
+",
+        "defined torus
+betti 1 2 1 0
+homology 1
+(1 <0:S1,1:S1>) (1 <1:S1,0:S1>)
+homology 2
+(1 <0:*,S1>)
+(1 <S1,0:*>)
+chain (1 <S1,S1>) (1 <S1,0:*>) (1 <0:*,S1>)
+coefficients 1 1
+chain (1 <0:S1,1:S1>)
+field 3
+homology 1
+(2 <0:S1,1:S1>) (1 <1:S1,0:S1>)
+coefficients 1 1
+chain (2 <0:S1,1:S1>)
+coefficients 2
+chain 0
+betti 1 0 1 1 0 1 0
+homology 1
+(1 <1-0:S1,2:S2>) (2 <2-0:S1,1:S2>) (1 <2-1:S1,0:S2>)
+defined three
+betti 1 3 3 1 0
+homology 1
+(2 <1-0:S1,2:<0:S1,1:S1>>) (1 <1-0:S1,2:<1:S1,0:S1>>) (1 <2-0:S1,1:<0:S1,1:S1>>) (2 <2-0:S1,1:<1:S1,0:S1>>) (2 <2-1:S1,0:<0:S1,1:S1>>) (1 <2-1:S1,0:<1:S1,0:S1>>)
+defined rp2
+betti 1 0 0 0 0 0
+field 2
+betti 1 2 3 2 1 0
+homology 2
+(1 <0:v,e>)
+(1 <e,0:v>)
+defined kk
+betti 1 2 1 0
+homology 2
+(1 <0:|,|1|>)
+(1 <|1|,0:|>)
+homology 1
+(1 <0:|1|,1:|1|>) (1 <1:|1|,0:|1|>)
+coefficients 1 0
+chain (1 <|1|1|,1-0:|>) (1 <0:|2|,1:|3|>) (1 <1-0:|,|1|1|>) (1 <1-0:|,|1|2|>)
+coefficients 0 1
+chain (1 <|1|-1|,1-0:|>)
+field 5
+coefficients 3 2
+chain (4 <|1|1|,1-0:|>) (4 <0:|2|,1:|3|>) (4 <1-0:|,|1|1|>) (4 <1-0:|,|1|2|>)
 ",
     ),
     (
@@ -1291,7 +1477,162 @@ error term too-deep 9
 ",
     ),
     (
-        "tour: 9. What an answer claims, and what comes next",
+        "tour: 9. Products, and the torus",
+        "(setf torus (crts-prdc (sphere 1) (sphere 1)))
+(betti torus 0 3)
+(homology torus 1)
+(homology torus 2)
+(boundary torus 2 (1 <0:S1,1:S1>))
+(field 3)
+(homology torus 2)
+(express torus 1 (1 <S1,S1>))
+(express torus 2 (1 <1:S1,0:S1>) (-1 <0:S1,1:S1>))
+(setf rp2 (table (v) (e v v) (t e 0:v e)))
+(betti (crts-prdc rp2 rp2) 0 4)
+(field 2)
+(betti (crts-prdc rp2 rp2) 0 4)
+(field 5)
+(setf k (crts-prdc (k-z-1) (k-z-1)))
+(betti k 0 3)
+(homology k 1)
+(express k 1 (1 <|2|,|3|>))
+(boundary torus 1 (1 <S1,*>))
+(boundary torus 1 (1 <0:*,0:*>))
+",
+        "defined torus
+betti 1 2 1 0
+homology 2
+(1 <0:*,S1>)
+(1 <S1,0:*>)
+homology 1
+(1 <0:S1,1:S1>) (1 <1:S1,0:S1>)
+chain (1 <S1,S1>) (1 <S1,0:*>) (1 <0:*,S1>)
+field 3
+homology 1
+(2 <0:S1,1:S1>) (1 <1:S1,0:S1>)
+coefficients 1 1
+chain (2 <0:S1,1:S1>)
+coefficients 1
+chain 0
+defined rp2
+betti 1 0 0 0 0
+field 2
+betti 1 2 3 2 1
+field 5
+defined k
+betti 1 2 1 0
+homology 2
+(1 <0:|,|1|>)
+(1 <|1|,0:|>)
+coefficients 3 2
+chain (4 <|1|1|,1-0:|>) (4 <0:|2|,1:|3|>) (4 <1-0:|,|1|1|>) (4 <1-0:|,|1|2|>)
+error simplex 1
+chain 0
+",
+    ),
+    (
+        "tour: 10. Circle bundles: the Hopf bundle",
+        "(setf hopf (bundle (sphere 2) (S2 1)))
+(betti hopf 0 4)
+(homology hopf 3)
+(boundary hopf 2 (1 <S2,1-0:|>))
+(express hopf 1 (1 <0:*,|1|>))
+(setf product (bundle (sphere 2)))
+(betti product 0 3)
+(express product 1 (1 <0:*,|1|>))
+",
+        "defined hopf
+betti 1 0 0 1 0
+homology 1
+(1 <0:S2,2-1:|1|>) (1 <1:S2,2-0:|1|>) (1 <2:S2,1-0:|1|>)
+chain (1 <0:*,|1|>)
+coefficients
+chain (1 <S2,1-0:|>)
+defined product
+betti 1 1 1 1
+coefficients 1
+chain 0
+",
+    ),
+    (
+        "tour: 11. Lens spaces",
+        "(setf rp3 (bundle (sphere 2) (S2 2)))
+(betti rp3 0 3)
+(homology rp3 2)
+(boundary rp3 2 (1 <S2,1-0:|>))
+(field 3)
+(betti rp3 0 3)
+(setf lens (bundle (sphere 2) (S2 3)))
+(betti lens 0 3)
+(express lens 1 (1 <0:*,|2|>))
+(field 2)
+(betti lens 0 3)
+(betti (bundle (sphere 2) (S2 -2)) 0 3)
+(betti (bundle (sphere 2) (S2 -3)) 0 3)
+(setf b (bundle (sphere 2) (S2 100000)))
+(betti b 0 3)
+(setf b (bundle (sphere 2) (S2 100001)))
+(betti (bundle (sphere 2) (S2 50000)) 0 3)
+",
+        "defined rp3
+betti 1 1 1 1
+homology 1
+(1 <S2,1-0:|>) (1 <1-0:*,|1|1|>)
+chain (1 <0:*,|2|>)
+field 3
+betti 1 0 0 1
+defined lens
+betti 1 1 1 1
+coefficients 2
+chain (2 <1-0:*,|1|1|>)
+field 2
+betti 1 0 0 1
+betti 1 1 1 1
+betti 1 0 0 1
+defined b
+error over terms 99999
+error over integer 100001
+betti 1 1 1 1
+",
+    ),
+    (
+        "tour: 12. A nilmanifold",
+        "(setf torus (table (v) (a v v) (b v v) (c v v) (s b c a) (t a c b)))
+(setf nil (bundle torus (s 1)))
+(betti nil 0 4)
+(betti (bundle torus) 0 4)
+(express nil 1 (1 <0:v,|1|>))
+(betti (bundle torus (s 1) (t 1)) 0 3)
+(setf nil2 (bundle torus (s 2)))
+(betti nil2 0 3)
+(field 3)
+(betti nil2 0 3)
+(setf b (bundle (k-z-1)))
+(setf b (bundle torus (a 1)))
+(setf b (bundle torus (s 1) (s 1)))
+(setf w (table (v) (t 0:v 0:v 0:v) (w t 1-0:v 1-0:v 1-0:v)))
+(setf b (bundle w (t 1)))
+",
+        "defined torus
+defined nil
+betti 1 2 2 1 0
+betti 1 3 3 1 0
+coefficients 0 0
+chain (1 <s,1-0:|>) (1 <t,1-0:|>) (1 <0:b,1:|1|>)
+betti 1 3 3 1
+defined nil2
+betti 1 3 3 1
+field 3
+betti 1 2 2 1
+error term base-not-table
+error cocycle unknown-cell 1
+error cocycle repeated-cell 2
+defined w
+error cocycle not-closed 2 1
+",
+    ),
+    (
+        "tour: 13. What an answer claims, and what comes next",
         "(betti (loop-space (sphere 2)) 0 3)
 ",
         "error not-built
@@ -1393,6 +1734,11 @@ betti 1 1
 (boundary (sphere 2) 2 0)
 (boundary (k-z-1) 2 (1 |2|3|) (1 |0|4|))
 (boundary (suspension (k-z-1)) 3 (1 ^|2|3|) (1 ^0:|4|))
+(setf p (crts-prdc (sphere 1) (k-z-1)))
+(field 3)
+(boundary p 2 (1 <0:S1,|1|2|>) (1 <0:S1,1:|4|>) (1 <1-0:*,|0|7|>) (1 <0:S1,0:|4|>))
+(setf b (bundle (sphere 2) (S2 5)))
+(boundary b 2 (1 <S2,|0|0|>) (1 <S2,|1|2|>))
 ",
         "chain 0
 field 5
@@ -1405,6 +1751,11 @@ chain 0
 chain 0
 chain (1 |2|) (1 |3|) (4 |5|)
 chain (4 ^|2|) (4 ^|3|) (1 ^|5|)
+defined p
+field 3
+chain (1 <S1,|2|>) (2 <S1,|3|>) (2 <S1,|4|>) (1 <S1,0:|>) (1 <0:*,|1|>) (1 <0:*,|4|>)
+defined b
+chain (1 <0:*,|1|>) (2 <0:*,|3|>) (1 <0:*,|5|>) (1 <0:*,|7|>)
 ",
     ),
     (
@@ -1416,7 +1767,7 @@ chain (4 ^|2|) (4 ^|3|) (1 ^|5|)
 (setf 2x (sphere 2))
 (boundary (sphere 2) 2)
 (boundary (sphere 2) 2 (-0 S2))
-(betti (crts-prdc (sphere 0) (loop-space (sphere 2))) 0 2)
+(betti (loop-space (sphere 2)) 0 2)
 (homology (loop-space nowhere) 99)
 (setf k (suspension (path-space (sphere 0))))
 (betti x 0 1)
@@ -1427,11 +1778,15 @@ chain (4 ^|2|) (4 ^|3|) (1 ^|5|)
 (setf x (suspension (suspension (suspension (suspension (suspension (suspension (suspension (suspension (sphere 1))))))))))
 (setf x (suspension (sphere 17)))
 (setf x (crts-prdc (sphere 0) (sphere 17)))
-(setf x (bundle (suspension (sphere 1)) (S2 1)))
-(setf x (bundle (sphere 2) (S2 1) (S3 1)))
-(setf x (bundle (sphere 2) (S2 1) (S2 1)))
-(setf x (bundle (sphere 2) (S2 100001)))
-(setf x (bundle (table (v) (t 0:v 0:v 0:v) (w t 1-0:v 1-0:v 1-0:v)) (t 1)))
+(setf x (crts-prdc (sphere 1) (suspension (suspension (suspension (suspension (suspension (suspension (suspension (sphere 1)))))))))
+(setf x (suspension (crts-prdc (sphere 1) (table (a) (b)))))
+(setf x (bundle (k-z-1)))
+(setf x (bundle (crts-prdc (sphere 1) (sphere 1)) (c 1)))
+(setf x (bundle (sphere 2) (S3 1)))
+(setf x (bundle (sphere 2) (S2 1) (S2 200000)))
+(setf x (bundle (sphere 2) (S2 200000) (S2 1)))
+(setf w (table (v) (t 0:v 0:v 0:v) (w t 1-0:v 1-0:v 1-0:v)))
+(setf x (bundle w (t 3)))
 (setf x (table))
 (setf x (table (e e e)))
 (setf x (table (v) (e v v) (e v v)))
@@ -1474,11 +1829,15 @@ error term not-one-vertex 2
 error term too-deep 9
 error term bad-sphere 17
 error term bad-sphere 0
+error term too-deep 9
+error term not-one-vertex 2
 error term base-not-table
-error cocycle unknown-cell 2
+error term base-not-table
+error cocycle unknown-cell 1
 error cocycle repeated-cell 2
-error over integer 100001
-error cocycle not-closed 2 1
+error over integer 200000
+defined w
+error cocycle not-closed 2 3
 error table no-vertex
 error table no-vertex
 error table duplicate-cell 2
