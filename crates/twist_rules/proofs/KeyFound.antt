@@ -66,7 +66,7 @@ use Rattle.twist_rules.proofs.PartNames.{built-assembled}
 
 -- ---- limits at a place
 
-not-past : (b : Bool) (k : Kind) (n : ℕ) (rest : Option (Kind × ℕ)) → elim b [ true ↦ Some (k, n) | false ↦ rest ] ≡ None → (b ≡ false) × (rest ≡ None)
+not-past : (b : Bool) (k : Kind) (n : ℕ) (rest : Option (Kind × ℕ)) → (let o : Option (Kind × ℕ) = elim b [ true ↦ Some (k, n) | false ↦ rest ] in o) ≡ None → (b ≡ false) × (rest ≡ None)
 not-past true k n rest e = absurd (cc)
 not-past false k n rest e = (refl, e)
 
