@@ -55,22 +55,22 @@ pub returns-in-Over-clause-asked : goal.returns-in-Over-clause-asked
 returns-in-Over-clause-asked g c =
     subst (λ ks. AskedFirst g.F.Forcer.forces ks c.args.forcer.now c.total_g.new.forcer) (g-serves c.args.key.now c.requires.valid c.requires.space c.args.m.now c.requires.maps c.args.y.now c.args.z.now c.requires.place c.requires.op (c.small_degree.result + c.small_degree-2.result) (λ i. c.small_degree.ensures i + c.small_degree-2.ensures i)).keys c.total_g.ensures.asked
 
-pub returns-clause-asked : goal.returns-clause-asked
-returns-clause-asked g c =
+pub returns-in-Value-clause-asked : goal.returns-in-Value-clause-asked
+returns-in-Value-clause-asked g c =
     subst (λ ks. AskedFirst g.F.Forcer.forces ks c.args.forcer.now c.total_g.new.forcer) (g-serves c.args.key.now c.requires.valid c.requires.space c.args.m.now c.requires.maps c.args.y.now c.args.z.now c.requires.place c.requires.op (c.small_degree.result + c.small_degree-2.result) (λ i. c.small_degree.ensures i + c.small_degree-2.ensures i)).keys c.total_g.ensures.asked
 
 pub returns-in-Over-clause-through : goal.returns-in-Over-clause-through
 returns-in-Over-clause-through g c =
     subst (λ ks. EachAnswered g.F.Forcer.forces c.args.forcer.now (up_to_refusal ks) c.total_g.new.forcer) (g-serves c.args.key.now c.requires.valid c.requires.space c.args.m.now c.requires.maps c.args.y.now c.args.z.now c.requires.place c.requires.op (c.small_degree.result + c.small_degree-2.result) (λ i. c.small_degree.ensures i + c.small_degree-2.ensures i)).keys c.in_ok-over.ensures.through
 
-pub returns-clause-through : goal.returns-clause-through
-returns-clause-through g c =
+pub returns-in-Value-clause-through : goal.returns-in-Value-clause-through
+returns-in-Value-clause-through g c =
     subst (λ ks. EachAnswered g.F.Forcer.forces c.args.forcer.now (up_to_refusal ks) c.total_g.new.forcer) (g-serves c.args.key.now c.requires.valid c.requires.space c.args.m.now c.requires.maps c.args.y.now c.args.z.now c.requires.place c.requires.op (c.small_degree.result + c.small_degree-2.result) (λ i. c.small_degree.ensures i + c.small_degree-2.ensures i)).keys c.in_ok-over.ensures.through
 
 pub returns-in-Over-clause-found : goal.returns-in-Over-clause-found
 returns-in-Over-clause-found g c =
     (g-serves c.args.key.now c.requires.valid c.requires.space c.args.m.now c.requires.maps c.args.y.now c.args.z.now c.requires.place c.requires.op (c.small_degree.result + c.small_degree-2.result) (λ i. c.small_degree.ensures i + c.small_degree-2.ensures i)).found (FoundOver c.in-Over.over) (subst (IsFound (formal_pairs (prime_of c.args.m.now) (base_held c.args.m.now) (fibre_held c.args.m.now)) (prime_of c.args.m.now) (g_total (prime_of c.args.m.now) (base_held c.args.m.now) (fibre_held c.args.m.now) (values_of c.args.m.now) (c.small_degree.result + c.small_degree-2.result) c.args.y.now c.args.z.now)) c.in-Over.is c.in_ok-over.ensures.found)
 
-pub returns-clause-found : goal.returns-clause-found
-returns-clause-found g c =
+pub returns-in-Value-clause-found : goal.returns-in-Value-clause-found
+returns-in-Value-clause-found g c =
     (g-serves c.args.key.now c.requires.valid c.requires.space c.args.m.now c.requires.maps c.args.y.now c.args.z.now c.requires.place c.requires.op (c.small_degree.result + c.small_degree-2.result) (λ i. c.small_degree.ensures i + c.small_degree-2.ensures i)).found (FoundValue c.in-Value.value) (subst (IsFound (formal_pairs (prime_of c.args.m.now) (base_held c.args.m.now) (fibre_held c.args.m.now)) (prime_of c.args.m.now) (g_total (prime_of c.args.m.now) (base_held c.args.m.now) (fibre_held c.args.m.now) (values_of c.args.m.now) (c.small_degree.result + c.small_degree-2.result) c.args.y.now c.args.z.now)) c.in-Value.is c.in_ok-over.ensures.found)
