@@ -1,5 +1,5 @@
 -- The chains of tensors that evaluations of the four maps have on the way: they are read back from the chains of the code.
-use Rattle.std.proofs.Common.{◌≡◌, ℕ, suc, ◌+◌, ◌<◌, ◌≤◌, List, Option, ℤ, sym, ◌∙◌, ap, subst, arith}
+use Rattle.std.proofs.Common.{◌≡◌, ℕ, suc, ◌≤◌, List, Option, ℤ, sym, ◌∙◌, ap, subst, arith}
 use Rattle.std.specs.declared.cmp.Ordering.{Ordering}
 use Rattle.fp_field.specs.declared.prime.Prime.{Prime}
 use Rattle.fp_field.specs.Field.{number}
@@ -20,7 +20,7 @@ use Rattle.part_asks.specs.Askers.{formal_tensors}
 use Rattle.twist_chains.specs.Fibred.{twist_by, AreTwistValues, room, read_pairs, read_tensors, IsPairWithin, tensors_of}
 use Rattle.twist_chains.proofs.FirstParts.{Key}
 use Rattle.twist_chains.proofs.FirstTerms as F
-use Rattle.fibred_asks.proofs.TensorKeys.{Gen, TensorKey, gens-of, gens-back}
+use Rattle.fibred_asks.proofs.TensorKeys.{Gen, gens-of, gens-back}
 
 module _ (p : Prime) (a b : Space) (ka : IsAllowedBuilt a) (kb : IsAllowedBuilt b) where
   -- tensors of degree n

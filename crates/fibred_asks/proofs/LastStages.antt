@@ -1,5 +1,5 @@
 -- Where a call evaluates all that is left of a right side, what the call owes is what is owed for the whole.
-use Rattle.std.proofs.Common.{◌≡◌, Some, None, Ok, sym, ◌∙◌, ap, subst}
+use Rattle.std.proofs.Common.{◌≡◌, sym, ◌∙◌, ap, subst}
 use Rattle.fp_field.specs.declared.prime.Prime.{Prime}
 use Rattle.values.specs.Asks.{Right}
 use Rattle.oracle_iface.specs.declared.keys.Key.{Key}
@@ -9,7 +9,7 @@ use Rattle.homology_rules.proofs.Answered.{up-none}
 use Rattle.homology_rules.proofs.Through.{each-both}
 use Rattle.part_asks.specs.declared.found.Found.{Found}
 use Rattle.part_asks.specs.declared.found.Found.TheVariants.{Value, Over}
-use Rattle.part_asks.specs.Reading.{keys_of, value_of, IsFound}
+use Rattle.part_asks.specs.Reading.{keys_of, IsFound}
 use Rattle.part_asks.proofs.Reached.{refused-then, asked-beyond, may-rest}
 use Rattle.part_asks.proofs.RightStages.{Stage, AsksValid, stage-start}
 use Rattle.fibred_asks.specs.Parts.{IfFound}

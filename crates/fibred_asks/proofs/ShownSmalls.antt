@@ -18,7 +18,7 @@ use Rattle.values.specs.Values.{value}
 use Rattle.values.proofs.BasesCells.{basis-members}
 use Rattle.oracle_iface.specs.KeyLaws.{IsProper}
 use Rattle.oracle_iface.specs.Keys.{formal, quote_small_chain}
-use Rattle.oracle_iface.specs.SmallForms.{small_form, quote_small}
+use Rattle.oracle_iface.specs.SmallForms.{small_form}
 use Rattle.oracle_iface.proofs.ProperBases.{listed-proper}
 use Rattle.oracle_iface.proofs.SmallDegrees.{degree-small}
 use Rattle.space_faces.specs.Built.{IsAllowedBuilt}
@@ -92,6 +92,6 @@ module _ (p : Prime) where
         → r ≡ formal_smalls p a b (all_d p a b values left right (value (number p) (small_d a left)) (value (number p) (small_d b right)) w)
     differential-found w shown dy dz t r d ey ez et ed er h =
         let whole = h
-            ∙ (λ i. pair_differential (number ((ey i).prime)) (degree-is d ed i) (sym own_y i) (sym own_z i) (ey i).terms (ez i).terms (et i).terms)
-            ∙ quoted-differential a b ka.1 kb.1 (number p) left right (value (number p) (small_d a left)) (value (number p) (small_d b right)) w lefts-shown rights-shown (smalls-shown w shown) in
+        ∙ (λ i. pair_differential (number ((ey i).prime)) (degree-is d ed i) (sym own_y i) (sym own_z i) (ey i).terms (ez i).terms (et i).terms)
+        ∙ quoted-differential a b ka.1 kb.1 (number p) left right (value (number p) (small_d a left)) (value (number p) (small_d b right)) w lefts-shown rights-shown (smalls-shown w shown) in
         λ i. record { prime = (er ∙ ap (λ (x : Formal SmallCell). x.prime) ey) i; terms = whole i }

@@ -16,11 +16,11 @@ pub three-alike : (p s : ℕ) (w : SmallCell → ℕ) (g : SmallCell → SmallCe
 three-alike p s w g all front back signed c e h =
     let v : SmallCell → ℕ = λ k. w (g k) in
     let a : weigh w all ≡ weigh w back + weigh w front + weigh v signed =
-        ap (weigh w) e ∙ weigh-append w (back ++ front) (on_keys g signed) ∙ (λ i. weigh-append w back front i + weigh-on w g signed i) in
+    ap (weigh w) e ∙ weigh-append w (back ++ front) (on_keys g signed) ∙ (λ i. weigh-append w back front i + weigh-on w g signed i) in
     let b : weigh w (front ++ scale s (on_keys g c) ++ back) ≡ weigh w front + s * weigh v c + weigh w back =
-        weigh-append w (front ++ scale s (on_keys g c)) back
-        ∙ ap (λ m. m + weigh w back)
-        (weigh-append w front (scale s (on_keys g c)) ∙ ap (λ m. weigh w front + m) (weigh-scale w s (on_keys g c) ∙ ap (λ m. s * m) (weigh-on w g c))) in
+    weigh-append w (front ++ scale s (on_keys g c)) back
+    ∙ ap (λ m. m + weigh w back)
+    (weigh-append w front (scale s (on_keys g c)) ∙ ap (λ m. weigh w front + m) (weigh-scale w s (on_keys g c) ∙ ap (λ m. s * m) (weigh-on w g c))) in
     let d : weigh v (scale s c) ≡ s * weigh v c = weigh-scale v s c in
     let f : weigh w back + weigh w front + s * weigh v c ≡ weigh w front + s * weigh v c + weigh w back = omega arith in
     ap (λ m. m % p) a

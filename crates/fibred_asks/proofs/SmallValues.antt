@@ -1,8 +1,7 @@
 -- The small differential of a pair on small cells of the code is that on the small cells that they stand for.
-use Rattle.std.proofs.Common.{◌≡◌, ℕ, ◌+◌, ◌*◌, ◌<◌, ◌≤◌, [], ◌∷◌, ◌++◌, map, refl, sym, ◌∙◌, ap, arith}
+use Rattle.std.proofs.Common.{◌≡◌, ℕ, ◌+◌, ◌*◌, ◌≤◌, [], ◌∷◌, ◌++◌, map, refl, sym, ◌∙◌, ap, arith}
 use Rattle.std.proofs.lemmas.List.{map-append}
 use Rattle.std.specs.Prelude.{max}
-use Rattle.std.specs.declared.cmp.Ordering.{Ordering}
 use Rattle.fp_field.specs.Field.{sign}
 use Rattle.fp_field.specs.Chains.{Terms, Each, scale}
 use Rattle.fp_field.specs.Normal.{normal}

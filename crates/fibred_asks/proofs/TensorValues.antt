@@ -16,8 +16,7 @@ use Rattle.spaces.specs.Spaces.{Space, table, sphere, product, suspension, kz1, 
 use Rattle.spaces.specs.Orders.{ordered}
 use Rattle.spaces.specs.SmallCells.{Small, small_degree}
 use Rattle.spaces.specs.EilenbergZilber.{Pair, Tensor, linear, pair_order, tensor_order, eml, flow}
-use Rattle.cells.specs.declared.cells.SmallCell.{SmallCell}
-use Rattle.values.specs.Asks.{Right, gives, ◌>>=◌, on_chain, g as g_of}
+use Rattle.values.specs.Asks.{Right, gives, ◌>>=◌, g as g_of}
 use Rattle.values.specs.BaseLaws.{IsSmall}
 use Rattle.values.specs.Laws.{maps_of}
 use Rattle.values.specs.Perturbed.{asked_terms, smalls_by, f_f, r, to_tensors}
@@ -28,10 +27,7 @@ use Rattle.values.specs.Values.{value}
 use Rattle.values.proofs.BasesCells.{basis-members}
 use Rattle.values.proofs.Chains.{value_with-on_chain}
 use Rattle.normal_forms.specs.Built.{IsBuilt}
-use Rattle.oracle_iface.specs.SmallForms.{small_form}
 use Rattle.space_faces.specs.Built.{IsAllowedBuilt}
-use Rattle.ez_laws.proofs.Eaches.{each-so}
-use Rattle.part_asks.specs.Askers.{g_tensor}
 use Rattle.part_asks.specs.Reading.{value_of}
 use Rattle.part_asks.proofs.Readings.{value-bind}
 use Rattle.twist_chains.specs.Fibred.{twist_by, AreTwistValues, growth}
@@ -43,7 +39,7 @@ use Rattle.twist_laws.proofs.Fibred.{tensored-meets}
 use Rattle.twist_laws.proofs.Instances.{products-complex, products-lower}
 use Rattle.twist_laws.proofs.ProductReductions.{no-difference}
 use Rattle.twist_laws.proofs.TensorParts as T
-use Rattle.twist_laws.proofs.TotalRead.{f_value, h_value, read-t}
+use Rattle.twist_laws.proofs.TotalRead.{read-t}
 use Rattle.fibred_asks.specs.Seconds.{h_on, p2_on, s2_on, f_on}
 use Rattle.fibred_asks.proofs.TensorKeys.{TensorKey, Gen, gens-of, some-reach}
 
@@ -87,7 +83,7 @@ module _ (p : Prime) (a b : Space) (ka : IsAllowedBuilt a) (kb : IsAllowedBuilt 
   degrees : HasDegrees P (T.ruled P pos a b ka.0.0 kb.0.0 untwisted)
   degrees =
       let t = tensored-meets P pos a b ka.0.0 kb.0.0 untwisted (products-lower P pos a b) (products-complex P pos a b ka.0.0 kb.0.0).twice
-          (no-difference P pos a b ka.0.0 kb.0.0) 0 left-reduced right-reduced in
+      (no-difference P pos a b ka.0.0 kb.0.0) 0 left-reduced right-reduced in
       T.ruled-degrees P pos a b ka.0.0 kb.0.0 untwisted left-reduced.degrees right-reduced.degrees t.degrees
 
   -- G of two small cells

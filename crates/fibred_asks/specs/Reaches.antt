@@ -1,8 +1,8 @@
 -- How far the reach of chains grows that the four maps make on the way, in degrees up to 31: from what is past no limit, each room of the first
--- perturbation adds less than a fiftieth of that, and a series of the second less than an eighth (Rubio and Sergeraert, Constructive Homological
+-- perturbation adds less than a fiftieth of that, and a series of the second less than a seventh (Rubio and Sergeraert, Constructive Homological
 -- Algebra and Applications, chapter 3).
 --
---   of a product nothing is added; over a table of dimension 2 the tensors of S1 in degree 1 have a reach of at most 18,600,000 more
+--   of a product nothing is added; of a bundle a room in degree 1 adds 18,600,000
 use Rattle.std.specs.Prelude.{ℕ}
 
 -- after a room, after a series, and after one more room

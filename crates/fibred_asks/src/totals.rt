@@ -75,7 +75,15 @@ pub fn total_g<F: Forcer>(
     ensures through { IfOk result (λ o. EachAnswered F.forces forcer.old (up_to_refusal (keys_of (prime_of m.now) (total_g_asked m.now n y.now z.now))) forcer.new) }
     ensures found { IfOk result (λ o. IsFound (formal_pairs (prime_of m.now) (base_of m.now) (fibre_of m.now)) (prime_of m.now) (total_g_asked m.now n y.now z.now) o) }
 {
-    let u = match tensor_g(alloc, m.base.prime, &m.base.term, &m.fibre.term, y, z, forcer)? {
+    let u = match tensor_g(
+        alloc,
+        m.base.prime,
+        &m.base.term,
+        &m.fibre.term,
+        y,
+        z,
+        forcer,
+    )? {
         Found::Over(over) => return Ok(Found::Over(over)),
         Found::Value(u) => u,
     };
@@ -141,7 +149,15 @@ fn transferred_f<F: Forcer>(
     ensures through { IfOk result (λ o. EachAnswered F.forces forcer.old (up_to_refusal (keys_of (prime_of m.now) (transferred_asked m.now n y.now z.now))) forcer.new) }
     ensures found { IfOk result (λ o. IsFound (formal_smalls (prime_of m.now) (base_of m.now) (fibre_of m.now)) (prime_of m.now) (transferred_asked m.now n y.now z.now) o) }
 {
-    let u = match tensor_g(alloc, m.base.prime, &m.base.term, &m.fibre.term, y, z, forcer)? {
+    let u = match tensor_g(
+        alloc,
+        m.base.prime,
+        &m.base.term,
+        &m.fibre.term,
+        y,
+        z,
+        forcer,
+    )? {
         Found::Over(over) => return Ok(Found::Over(over)),
         Found::Value(u) => u,
     };
@@ -188,5 +204,13 @@ pub fn total_d<F: Forcer>(
         Found::Over(over) => return Ok(Found::Over(over)),
         Found::Value(twisted) => twisted,
     };
-    Ok(Found::Value(pair_differential(alloc, cells::small_degree(y), y, z, of_left, of_right, twisted)?))
+    Ok(Found::Value(pair_differential(
+        alloc,
+        cells::small_degree(y),
+        y,
+        z,
+        of_left,
+        of_right,
+        twisted,
+    )?))
 }

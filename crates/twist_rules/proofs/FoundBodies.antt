@@ -1,12 +1,11 @@
 -- What is found along the right side of a map is found, as a value of the code, for the right side of the rule.
-use Rattle.std.proofs.Common.{◌≡◌, ℕ, List, [], ◌∷◌, refl, sym, ◌∙◌, ap}
+use Rattle.std.proofs.Common.{◌≡◌, List, [], ◌∷◌, refl, sym, ◌∙◌, ap}
 use Rattle.std.proofs.lemmas.List.{append-nil}
 use Rattle.fp_field.specs.declared.prime.Prime.{Prime}
 use Rattle.fp_field.specs.Field.{number}
 use Rattle.fp_field.specs.Chains.{Terms}
 use Rattle.chain_core.specs.Formal.{Formal}
 use Rattle.spaces.specs.Spaces.{Space, Plain, product, bundle, table, kz1}
-use Rattle.spaces.specs.SmallCells.{Small}
 use Rattle.spaces.specs.Tables.{Table}
 use Rattle.std.specs.Prelude.{ℤ}
 use Rattle.spaces.specs.EilenbergZilber.{Pair}
@@ -26,7 +25,6 @@ use Rattle.part_asks.specs.declared.found.Found.TheVariants.{Value, Over}
 use Rattle.part_asks.specs.Reading.{value_of, IsFound}
 use Rattle.part_asks.proofs.Readings.{keys-then, value-bind}
 use Rattle.twist_chains.specs.Fibred.{quote_pairs}
-use Rattle.fibred_asks.specs.Parts.{formal_smalls}
 use Rattle.fibred_asks.specs.Totals.{formal_pairs}
 
 -- what is found, as a body

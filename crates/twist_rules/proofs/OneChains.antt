@@ -1,5 +1,5 @@
 -- The chain of one cell with the coefficient 1 is in normal form.
-use Rattle.std.proofs.Common.{◌≡◌, ℕ, ◌%◌, ◌<◌, [], ◌∷◌, ap}
+use Rattle.std.proofs.Common.{◌≡◌, [], ap}
 use Rattle.std.proofs.Math.Nat.{mod-eq_of_lt}
 use Rattle.fp_field.specs.declared.prime.Prime.{Prime}
 use Rattle.fp_field.specs.Field.{number}

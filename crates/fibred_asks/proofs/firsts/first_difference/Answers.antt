@@ -3,10 +3,9 @@ use Rattle.std.specs.Option.{option_copied}
 use Rattle.std.proofs.lemmas.Result.{IfOk-weaker}
 use Rattle.fp_field.specs.Field.{number}
 use Rattle.fp_field.specs.Chains.{EachKey}
-use Rattle.twist_chains.specs.Fibred.{AreTwistValues, room, IsPairWithin, IsTensorWithin, difference_of}
-use Rattle.fibred_asks.specs.Asked.{prime_of, base_of, fibre_of, values_of}
-use Rattle.fibred_asks.specs.Reached.{limited_reach}
-use Rattle.fibred_asks.specs.Reaches.{first_reach, second_reach, third_reach}
+use Rattle.twist_chains.specs.Fibred.{AreTwistValues, room, IsTensorWithin, difference_of}
+use Rattle.fibred_asks.specs.Asked.{base_of, fibre_of, values_of}
+use Rattle.fibred_asks.specs.Reaches.{second_reach, third_reach}
 use Rattle.fibred_asks.proofs.FibredCalls.{of-parts, to-parts}
 use Rattle.fibred_asks.proofs.Numbers.{room-within}
 use Rattle.fibred_asks.proofs.TensorKeys.{wider-tensors}

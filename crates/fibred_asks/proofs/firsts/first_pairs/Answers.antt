@@ -1,15 +1,12 @@
-use Rattle.std.proofs.Common.{◌≡◌, ◌≤◌, ◌-◌, ◌^◌, IfOk, ap, arith}
+use Rattle.std.proofs.Common.{◌≡◌, ◌≤◌, ◌^◌, IfOk, ap, arith}
 use Rattle.std.specs.Option.{option_copied}
-use Rattle.std.proofs.lemmas.Result.{IfOk-weaker}
 use Rattle.fp_field.specs.Field.{number}
 use Rattle.fp_field.specs.Chains.{EachKey}
-use Rattle.twist_chains.specs.Fibred.{AreTwistValues, room, IsPairWithin, IsTensorWithin, lifted_of}
-use Rattle.fibred_asks.specs.Asked.{prime_of, base_of, fibre_of, values_of}
-use Rattle.fibred_asks.specs.Reached.{limited_reach}
-use Rattle.fibred_asks.specs.Reaches.{first_reach, second_reach, third_reach}
+use Rattle.twist_chains.specs.Fibred.{AreTwistValues, room, IsTensorWithin, lifted_of}
+use Rattle.fibred_asks.specs.Asked.{values_of}
+use Rattle.fibred_asks.specs.Reaches.{second_reach}
 use Rattle.fibred_asks.proofs.FibredCalls.{of-parts, to-parts}
 use Rattle.fibred_asks.proofs.Numbers.{room-within}
-use Rattle.fibred_asks.proofs.TensorKeys.{wider-tensors}
 use Rattle.fibred_asks.proofs.firsts.first_pairs.Goals as goal
 
 pub lifted-requires-clause-values : goal.lifted-requires-clause-values

@@ -1,24 +1,11 @@
-use Rattle.std.proofs.Common.{ap, sym, ◌∙◌, arith}
-use Rattle.std.proofs.lemmas.Result.{IfOk-weaker}
-use Rattle.fp_field.specs.Field.{number}
-use Rattle.fp_field.specs.Chains.{EachKey}
+use Rattle.std.proofs.Common.{ap, sym, ◌∙◌}
 use Rattle.chain_core.specs.Formal.{Formal}
-use Rattle.cells.specs.declared.cells.Cell.{Cell}
-use Rattle.tensor_red.specs.declared.tensors.Tensor.{Tensor as CodeTensor}
-use Rattle.values.specs.Asks.{gives, ◌>>=◌}
-use Rattle.part_asks.specs.Askers.{g_tensor, formal_tensors}
+use Rattle.values.specs.Asks.{gives}
 use Rattle.part_asks.specs.Reading.{value_of}
 use Rattle.part_asks.proofs.Readings.{found-none, found-value, found-over}
 use Rattle.part_asks.proofs.RightStages.{valid-next, may-next, asked-next, refused-whole, refused-through, stage-asked, stage-none, stage-through}
-use Rattle.twist_chains.specs.Fibred.{read_pairs, read_tensors}
-use Rattle.fibred_asks.specs.Asked.{prime_of, base_of, fibre_of, values_of, IsTensorIn}
-use Rattle.fibred_asks.specs.Parts.{formal_smalls, EachIn}
-use Rattle.fibred_asks.specs.Reached.{limited_reach}
-use Rattle.fibred_asks.specs.Reaches.{first_reach, second_reach, third_reach}
-use Rattle.fibred_asks.specs.Seconds.{h_on, p2_on, s2_on, f_on, series_room}
-use Rattle.fibred_asks.proofs.LastStages.{if-found, may-last, asked-last, through-last, found-last}
-use Rattle.fibred_asks.proofs.Numbers.{series-within}
-use Rattle.fibred_asks.proofs.TensorKeys.{wider-tensors}
+use Rattle.fibred_asks.specs.Asked.{prime_of, base_of, fibre_of, values_of}
+use Rattle.fibred_asks.specs.Parts.{formal_smalls}
 use Rattle.oracle_iface.specs.Keys.{formal, quote_small_chain}
 use Rattle.oracle_iface.specs.SmallForms.{small_form}
 use Rattle.cells.specs.declared.cells.SmallCell.{SmallCell}
@@ -121,9 +108,10 @@ returns-clause-through g c =
     stage-through g.F.Forcer.forces (prime_of c.args.m.now) (d_total (prime_of c.args.m.now) (base_of c.args.m.now) (fibre_of c.args.m.now) (values_of c.args.m.now) c.args.n c.args.y.now c.args.z.now) (all_d (prime_of c.args.m.now) (base_of c.args.m.now) (fibre_of c.args.m.now) (values_of c.args.m.now) (small_form c.args.y.now (base_of c.args.m.now)) (small_form c.args.z.now (fibre_of c.args.m.now)) (value_of (prime_of c.args.m.now) (small_d_at (base_of c.args.m.now) c.args.y.now)) (value_of (prime_of c.args.m.now) (small_d_at (fibre_of c.args.m.now) c.args.z.now)) (value_of (prime_of c.args.m.now) (transferred (prime_of c.args.m.now) (base_of c.args.m.now) (fibre_of c.args.m.now) (values_of c.args.m.now) c.args.n c.args.y.now c.args.z.now))) c.args.forcer.now c.transferred_f.new.forcer (T.ended g.F.Forcer.forces (prime_of c.args.m.now) (base_of c.args.m.now) (fibre_of c.args.m.now) (values_of c.args.m.now) c.args.n c.args.y.now c.args.z.now c.requires.valid c.args.forcer.now c.part_small_d.new.forcer (found-none (λ x. formal (prime_of c.args.m.now) (quote_small_chain (base_of c.args.m.now) x)) (prime_of c.args.m.now) (small_d_at (base_of c.args.m.now) c.args.y.now) _ c.in-Value.of_left c.in-Value.is c.in_ok-over.ensures.found) c.in_ok-over.ensures.through c.part_small_d-2.new.forcer (found-none (λ x. formal (prime_of c.args.m.now) (quote_small_chain (fibre_of c.args.m.now) x)) (prime_of c.args.m.now) (small_d_at (fibre_of c.args.m.now) c.args.z.now) _ c.in-Value-2.of_right c.in-Value-2.is c.in_ok-over-2.ensures.found) c.in_ok-over-2.ensures.through c.transferred_f.new.forcer (found-none (formal_smalls (prime_of c.args.m.now) (base_of c.args.m.now) (fibre_of c.args.m.now)) (prime_of c.args.m.now) (transferred (prime_of c.args.m.now) (base_of c.args.m.now) (fibre_of c.args.m.now) (values_of c.args.m.now) c.args.n c.args.y.now c.args.z.now) _ c.in-Value-3.twisted c.in-Value-3.is c.in_ok-over-3.ensures.found) c.in_ok-over-3.ensures.through)
 
 pub returns-clause-found : goal.returns-clause-found
-returns-clause-found g c =
-    (stage-none g.F.Forcer.forces (prime_of c.args.m.now) (d_total (prime_of c.args.m.now) (base_of c.args.m.now) (fibre_of c.args.m.now) (values_of c.args.m.now) c.args.n c.args.y.now c.args.z.now) (all_d (prime_of c.args.m.now) (base_of c.args.m.now) (fibre_of c.args.m.now) (values_of c.args.m.now) (small_form c.args.y.now (base_of c.args.m.now)) (small_form c.args.z.now (fibre_of c.args.m.now)) (value_of (prime_of c.args.m.now) (small_d_at (base_of c.args.m.now) c.args.y.now)) (value_of (prime_of c.args.m.now) (small_d_at (fibre_of c.args.m.now) c.args.z.now)) (value_of (prime_of c.args.m.now) (transferred (prime_of c.args.m.now) (base_of c.args.m.now) (fibre_of c.args.m.now) (values_of c.args.m.now) c.args.n c.args.y.now c.args.z.now))) c.args.forcer.now c.transferred_f.new.forcer (T.ended g.F.Forcer.forces (prime_of c.args.m.now) (base_of c.args.m.now) (fibre_of c.args.m.now) (values_of c.args.m.now) c.args.n c.args.y.now c.args.z.now c.requires.valid c.args.forcer.now c.part_small_d.new.forcer (found-none (λ x. formal (prime_of c.args.m.now) (quote_small_chain (base_of c.args.m.now) x)) (prime_of c.args.m.now) (small_d_at (base_of c.args.m.now) c.args.y.now) _ c.in-Value.of_left c.in-Value.is c.in_ok-over.ensures.found) c.in_ok-over.ensures.through c.part_small_d-2.new.forcer (found-none (λ x. formal (prime_of c.args.m.now) (quote_small_chain (fibre_of c.args.m.now) x)) (prime_of c.args.m.now) (small_d_at (fibre_of c.args.m.now) c.args.z.now) _ c.in-Value-2.of_right c.in-Value-2.is c.in_ok-over-2.ensures.found) c.in_ok-over-2.ensures.through c.transferred_f.new.forcer (found-none (formal_smalls (prime_of c.args.m.now) (base_of c.args.m.now) (fibre_of c.args.m.now)) (prime_of c.args.m.now) (transferred (prime_of c.args.m.now) (base_of c.args.m.now) (fibre_of c.args.m.now) (values_of c.args.m.now) c.args.n c.args.y.now c.args.z.now) _ c.in-Value-3.twisted c.in-Value-3.is c.in_ok-over-3.ensures.found) c.in_ok-over-3.ensures.through),
-    differential-found (prime_of c.args.m.now) (base_of c.args.m.now) (fibre_of c.args.m.now) c.requires.parts.base_built c.requires.parts.fibre_built (values_of c.args.m.now) c.args.n c.requires.degree c.args.y.now c.args.z.now c.requires.base_cell c.requires.fibre_cell (valid-next g.F.Forcer.forces (prime_of c.args.m.now) (d_total (prime_of c.args.m.now) (base_of c.args.m.now) (fibre_of c.args.m.now) (values_of c.args.m.now) c.args.n c.args.y.now c.args.z.now) (small_d_at (base_of c.args.m.now) c.args.y.now) (T.after_left g.F.Forcer.forces (prime_of c.args.m.now) (base_of c.args.m.now) (fibre_of c.args.m.now) (values_of c.args.m.now) c.args.n c.args.y.now c.args.z.now c.requires.valid c.args.forcer.now) c.args.forcer.now c.args.forcer.now (T.first g.F.Forcer.forces (prime_of c.args.m.now) (base_of c.args.m.now) (fibre_of c.args.m.now) (values_of c.args.m.now) c.args.n c.args.y.now c.args.z.now c.requires.valid c.args.forcer.now)).0 (valid-next g.F.Forcer.forces (prime_of c.args.m.now) (d_total (prime_of c.args.m.now) (base_of c.args.m.now) (fibre_of c.args.m.now) (values_of c.args.m.now) c.args.n c.args.y.now c.args.z.now) (small_d_at (fibre_of c.args.m.now) c.args.z.now) (T.after_right g.F.Forcer.forces (prime_of c.args.m.now) (base_of c.args.m.now) (fibre_of c.args.m.now) (values_of c.args.m.now) c.args.n c.args.y.now c.args.z.now c.requires.valid c.args.forcer.now (value_of (prime_of c.args.m.now) (small_d_at (base_of c.args.m.now) c.args.y.now))) c.args.forcer.now c.part_small_d.new.forcer (T.second g.F.Forcer.forces (prime_of c.args.m.now) (base_of c.args.m.now) (fibre_of c.args.m.now) (values_of c.args.m.now) c.args.n c.args.y.now c.args.z.now c.requires.valid c.args.forcer.now c.part_small_d.new.forcer (found-none (λ x. formal (prime_of c.args.m.now) (quote_small_chain (base_of c.args.m.now) x)) (prime_of c.args.m.now) (small_d_at (base_of c.args.m.now) c.args.y.now) _ c.in-Value.of_left c.in-Value.is c.in_ok-over.ensures.found) c.in_ok-over.ensures.through)).0 c.requires.sum
-    (value_of (prime_of c.args.m.now) (transferred (prime_of c.args.m.now) (base_of c.args.m.now) (fibre_of c.args.m.now) (values_of c.args.m.now) c.args.n c.args.y.now c.args.z.now)) (transferred-smalls (prime_of c.args.m.now) (base_of c.args.m.now) (fibre_of c.args.m.now) c.requires.parts (values_of c.args.m.now) c.requires.values c.args.n c.requires.degree c.args.y.now c.args.z.now c.requires.sum (T.valid-g g.F.Forcer.forces (prime_of c.args.m.now) (base_of c.args.m.now) (fibre_of c.args.m.now) c.requires.parts (values_of c.args.m.now) c.requires.values c.args.n c.requires.degree c.args.y.now c.args.z.now c.requires.sum (valid-next g.F.Forcer.forces (prime_of c.args.m.now) (d_total (prime_of c.args.m.now) (base_of c.args.m.now) (fibre_of c.args.m.now) (values_of c.args.m.now) c.args.n c.args.y.now c.args.z.now) (transferred (prime_of c.args.m.now) (base_of c.args.m.now) (fibre_of c.args.m.now) (values_of c.args.m.now) c.args.n c.args.y.now c.args.z.now) (T.sums g.F.Forcer.forces (prime_of c.args.m.now) (base_of c.args.m.now) (fibre_of c.args.m.now) (values_of c.args.m.now) c.args.n c.args.y.now c.args.z.now c.requires.valid c.args.forcer.now (value_of (prime_of c.args.m.now) (small_d_at (base_of c.args.m.now) c.args.y.now)) (value_of (prime_of c.args.m.now) (small_d_at (fibre_of c.args.m.now) c.args.z.now))) c.args.forcer.now c.part_small_d-2.new.forcer (T.third g.F.Forcer.forces (prime_of c.args.m.now) (base_of c.args.m.now) (fibre_of c.args.m.now) (values_of c.args.m.now) c.args.n c.args.y.now c.args.z.now c.requires.valid c.args.forcer.now c.part_small_d.new.forcer (found-none (λ x. formal (prime_of c.args.m.now) (quote_small_chain (base_of c.args.m.now) x)) (prime_of c.args.m.now) (small_d_at (base_of c.args.m.now) c.args.y.now) _ c.in-Value.of_left c.in-Value.is c.in_ok-over.ensures.found) c.in_ok-over.ensures.through c.part_small_d-2.new.forcer (found-none (λ x. formal (prime_of c.args.m.now) (quote_small_chain (fibre_of c.args.m.now) x)) (prime_of c.args.m.now) (small_d_at (fibre_of c.args.m.now) c.args.z.now) _ c.in-Value-2.of_right c.in-Value-2.is c.in_ok-over-2.ensures.found) c.in_ok-over-2.ensures.through)) c.args.forcer.now))
-    c.in-Value.of_left c.in-Value-2.of_right c.in-Value-3.twisted c.in_ok-pair_differential.field-0 c.small_degree.result (found-value (λ x. formal (prime_of c.args.m.now) (quote_small_chain (base_of c.args.m.now) x)) (prime_of c.args.m.now) (small_d_at (base_of c.args.m.now) c.args.y.now) _ c.in-Value.of_left c.in-Value.is c.in_ok-over.ensures.found) (found-value (λ x. formal (prime_of c.args.m.now) (quote_small_chain (fibre_of c.args.m.now) x)) (prime_of c.args.m.now) (small_d_at (fibre_of c.args.m.now) c.args.z.now) _ c.in-Value-2.of_right c.in-Value-2.is c.in_ok-over-2.ensures.found) (found-value (formal_smalls (prime_of c.args.m.now) (base_of c.args.m.now) (fibre_of c.args.m.now)) (prime_of c.args.m.now) (transferred (prime_of c.args.m.now) (base_of c.args.m.now) (fibre_of c.args.m.now) (values_of c.args.m.now) c.args.n c.args.y.now c.args.z.now) _ c.in-Value-3.twisted c.in-Value-3.is c.in_ok-over-3.ensures.found) c.small_degree.ensures
-    c.in_ok-pair_differential.ensures.prime c.in_ok-pair_differential.ensures.sum ∙ ap (formal_smalls (prime_of c.args.m.now) (base_of c.args.m.now) (fibre_of c.args.m.now)) (sym (T.ended g.F.Forcer.forces (prime_of c.args.m.now) (base_of c.args.m.now) (fibre_of c.args.m.now) (values_of c.args.m.now) c.args.n c.args.y.now c.args.z.now c.requires.valid c.args.forcer.now c.part_small_d.new.forcer (found-none (λ x. formal (prime_of c.args.m.now) (quote_small_chain (base_of c.args.m.now) x)) (prime_of c.args.m.now) (small_d_at (base_of c.args.m.now) c.args.y.now) _ c.in-Value.of_left c.in-Value.is c.in_ok-over.ensures.found) c.in_ok-over.ensures.through c.part_small_d-2.new.forcer (found-none (λ x. formal (prime_of c.args.m.now) (quote_small_chain (fibre_of c.args.m.now) x)) (prime_of c.args.m.now) (small_d_at (fibre_of c.args.m.now) c.args.z.now) _ c.in-Value-2.of_right c.in-Value-2.is c.in_ok-over-2.ensures.found) c.in_ok-over-2.ensures.through c.transferred_f.new.forcer (found-none (formal_smalls (prime_of c.args.m.now) (base_of c.args.m.now) (fibre_of c.args.m.now)) (prime_of c.args.m.now) (transferred (prime_of c.args.m.now) (base_of c.args.m.now) (fibre_of c.args.m.now) (values_of c.args.m.now) c.args.n c.args.y.now c.args.z.now) _ c.in-Value-3.twisted c.in-Value-3.is c.in_ok-over-3.ensures.found) c.in_ok-over-3.ensures.through).value_is))
+returns-clause-found g c = (
+  stage-none g.F.Forcer.forces (prime_of c.args.m.now) (d_total (prime_of c.args.m.now) (base_of c.args.m.now) (fibre_of c.args.m.now) (values_of c.args.m.now) c.args.n c.args.y.now c.args.z.now) (all_d (prime_of c.args.m.now) (base_of c.args.m.now) (fibre_of c.args.m.now) (values_of c.args.m.now) (small_form c.args.y.now (base_of c.args.m.now)) (small_form c.args.z.now (fibre_of c.args.m.now)) (value_of (prime_of c.args.m.now) (small_d_at (base_of c.args.m.now) c.args.y.now)) (value_of (prime_of c.args.m.now) (small_d_at (fibre_of c.args.m.now) c.args.z.now)) (value_of (prime_of c.args.m.now) (transferred (prime_of c.args.m.now) (base_of c.args.m.now) (fibre_of c.args.m.now) (values_of c.args.m.now) c.args.n c.args.y.now c.args.z.now))) c.args.forcer.now c.transferred_f.new.forcer (T.ended g.F.Forcer.forces (prime_of c.args.m.now) (base_of c.args.m.now) (fibre_of c.args.m.now) (values_of c.args.m.now) c.args.n c.args.y.now c.args.z.now c.requires.valid c.args.forcer.now c.part_small_d.new.forcer (found-none (λ x. formal (prime_of c.args.m.now) (quote_small_chain (base_of c.args.m.now) x)) (prime_of c.args.m.now) (small_d_at (base_of c.args.m.now) c.args.y.now) _ c.in-Value.of_left c.in-Value.is c.in_ok-over.ensures.found) c.in_ok-over.ensures.through c.part_small_d-2.new.forcer (found-none (λ x. formal (prime_of c.args.m.now) (quote_small_chain (fibre_of c.args.m.now) x)) (prime_of c.args.m.now) (small_d_at (fibre_of c.args.m.now) c.args.z.now) _ c.in-Value-2.of_right c.in-Value-2.is c.in_ok-over-2.ensures.found) c.in_ok-over-2.ensures.through c.transferred_f.new.forcer (found-none (formal_smalls (prime_of c.args.m.now) (base_of c.args.m.now) (fibre_of c.args.m.now)) (prime_of c.args.m.now) (transferred (prime_of c.args.m.now) (base_of c.args.m.now) (fibre_of c.args.m.now) (values_of c.args.m.now) c.args.n c.args.y.now c.args.z.now) _ c.in-Value-3.twisted c.in-Value-3.is c.in_ok-over-3.ensures.found) c.in_ok-over-3.ensures.through),
+  differential-found (prime_of c.args.m.now) (base_of c.args.m.now) (fibre_of c.args.m.now) c.requires.parts.base_built c.requires.parts.fibre_built (values_of c.args.m.now) c.args.n c.requires.degree c.args.y.now c.args.z.now c.requires.base_cell c.requires.fibre_cell (valid-next g.F.Forcer.forces (prime_of c.args.m.now) (d_total (prime_of c.args.m.now) (base_of c.args.m.now) (fibre_of c.args.m.now) (values_of c.args.m.now) c.args.n c.args.y.now c.args.z.now) (small_d_at (base_of c.args.m.now) c.args.y.now) (T.after_left g.F.Forcer.forces (prime_of c.args.m.now) (base_of c.args.m.now) (fibre_of c.args.m.now) (values_of c.args.m.now) c.args.n c.args.y.now c.args.z.now c.requires.valid c.args.forcer.now) c.args.forcer.now c.args.forcer.now (T.first g.F.Forcer.forces (prime_of c.args.m.now) (base_of c.args.m.now) (fibre_of c.args.m.now) (values_of c.args.m.now) c.args.n c.args.y.now c.args.z.now c.requires.valid c.args.forcer.now)).0 (valid-next g.F.Forcer.forces (prime_of c.args.m.now) (d_total (prime_of c.args.m.now) (base_of c.args.m.now) (fibre_of c.args.m.now) (values_of c.args.m.now) c.args.n c.args.y.now c.args.z.now) (small_d_at (fibre_of c.args.m.now) c.args.z.now) (T.after_right g.F.Forcer.forces (prime_of c.args.m.now) (base_of c.args.m.now) (fibre_of c.args.m.now) (values_of c.args.m.now) c.args.n c.args.y.now c.args.z.now c.requires.valid c.args.forcer.now (value_of (prime_of c.args.m.now) (small_d_at (base_of c.args.m.now) c.args.y.now))) c.args.forcer.now c.part_small_d.new.forcer (T.second g.F.Forcer.forces (prime_of c.args.m.now) (base_of c.args.m.now) (fibre_of c.args.m.now) (values_of c.args.m.now) c.args.n c.args.y.now c.args.z.now c.requires.valid c.args.forcer.now c.part_small_d.new.forcer (found-none (λ x. formal (prime_of c.args.m.now) (quote_small_chain (base_of c.args.m.now) x)) (prime_of c.args.m.now) (small_d_at (base_of c.args.m.now) c.args.y.now) _ c.in-Value.of_left c.in-Value.is c.in_ok-over.ensures.found) c.in_ok-over.ensures.through)).0 c.requires.sum
+      (value_of (prime_of c.args.m.now) (transferred (prime_of c.args.m.now) (base_of c.args.m.now) (fibre_of c.args.m.now) (values_of c.args.m.now) c.args.n c.args.y.now c.args.z.now)) (transferred-smalls (prime_of c.args.m.now) (base_of c.args.m.now) (fibre_of c.args.m.now) c.requires.parts (values_of c.args.m.now) c.requires.values c.args.n c.requires.degree c.args.y.now c.args.z.now c.requires.sum (T.valid-g g.F.Forcer.forces (prime_of c.args.m.now) (base_of c.args.m.now) (fibre_of c.args.m.now) c.requires.parts (values_of c.args.m.now) c.requires.values c.args.n c.requires.degree c.args.y.now c.args.z.now c.requires.sum (valid-next g.F.Forcer.forces (prime_of c.args.m.now) (d_total (prime_of c.args.m.now) (base_of c.args.m.now) (fibre_of c.args.m.now) (values_of c.args.m.now) c.args.n c.args.y.now c.args.z.now) (transferred (prime_of c.args.m.now) (base_of c.args.m.now) (fibre_of c.args.m.now) (values_of c.args.m.now) c.args.n c.args.y.now c.args.z.now) (T.sums g.F.Forcer.forces (prime_of c.args.m.now) (base_of c.args.m.now) (fibre_of c.args.m.now) (values_of c.args.m.now) c.args.n c.args.y.now c.args.z.now c.requires.valid c.args.forcer.now (value_of (prime_of c.args.m.now) (small_d_at (base_of c.args.m.now) c.args.y.now)) (value_of (prime_of c.args.m.now) (small_d_at (fibre_of c.args.m.now) c.args.z.now))) c.args.forcer.now c.part_small_d-2.new.forcer (T.third g.F.Forcer.forces (prime_of c.args.m.now) (base_of c.args.m.now) (fibre_of c.args.m.now) (values_of c.args.m.now) c.args.n c.args.y.now c.args.z.now c.requires.valid c.args.forcer.now c.part_small_d.new.forcer (found-none (λ x. formal (prime_of c.args.m.now) (quote_small_chain (base_of c.args.m.now) x)) (prime_of c.args.m.now) (small_d_at (base_of c.args.m.now) c.args.y.now) _ c.in-Value.of_left c.in-Value.is c.in_ok-over.ensures.found) c.in_ok-over.ensures.through c.part_small_d-2.new.forcer (found-none (λ x. formal (prime_of c.args.m.now) (quote_small_chain (fibre_of c.args.m.now) x)) (prime_of c.args.m.now) (small_d_at (fibre_of c.args.m.now) c.args.z.now) _ c.in-Value-2.of_right c.in-Value-2.is c.in_ok-over-2.ensures.found) c.in_ok-over-2.ensures.through)) c.args.forcer.now))
+      c.in-Value.of_left c.in-Value-2.of_right c.in-Value-3.twisted c.in_ok-pair_differential.field-0 c.small_degree.result (found-value (λ x. formal (prime_of c.args.m.now) (quote_small_chain (base_of c.args.m.now) x)) (prime_of c.args.m.now) (small_d_at (base_of c.args.m.now) c.args.y.now) _ c.in-Value.of_left c.in-Value.is c.in_ok-over.ensures.found) (found-value (λ x. formal (prime_of c.args.m.now) (quote_small_chain (fibre_of c.args.m.now) x)) (prime_of c.args.m.now) (small_d_at (fibre_of c.args.m.now) c.args.z.now) _ c.in-Value-2.of_right c.in-Value-2.is c.in_ok-over-2.ensures.found) (found-value (formal_smalls (prime_of c.args.m.now) (base_of c.args.m.now) (fibre_of c.args.m.now)) (prime_of c.args.m.now) (transferred (prime_of c.args.m.now) (base_of c.args.m.now) (fibre_of c.args.m.now) (values_of c.args.m.now) c.args.n c.args.y.now c.args.z.now) _ c.in-Value-3.twisted c.in-Value-3.is c.in_ok-over-3.ensures.found) c.small_degree.ensures
+      c.in_ok-pair_differential.ensures.prime c.in_ok-pair_differential.ensures.sum ∙ ap (formal_smalls (prime_of c.args.m.now) (base_of c.args.m.now) (fibre_of c.args.m.now)) (sym (T.ended g.F.Forcer.forces (prime_of c.args.m.now) (base_of c.args.m.now) (fibre_of c.args.m.now) (values_of c.args.m.now) c.args.n c.args.y.now c.args.z.now c.requires.valid c.args.forcer.now c.part_small_d.new.forcer (found-none (λ x. formal (prime_of c.args.m.now) (quote_small_chain (base_of c.args.m.now) x)) (prime_of c.args.m.now) (small_d_at (base_of c.args.m.now) c.args.y.now) _ c.in-Value.of_left c.in-Value.is c.in_ok-over.ensures.found) c.in_ok-over.ensures.through c.part_small_d-2.new.forcer (found-none (λ x. formal (prime_of c.args.m.now) (quote_small_chain (fibre_of c.args.m.now) x)) (prime_of c.args.m.now) (small_d_at (fibre_of c.args.m.now) c.args.z.now) _ c.in-Value-2.of_right c.in-Value-2.is c.in_ok-over-2.ensures.found) c.in_ok-over-2.ensures.through c.transferred_f.new.forcer (found-none (formal_smalls (prime_of c.args.m.now) (base_of c.args.m.now) (fibre_of c.args.m.now)) (prime_of c.args.m.now) (transferred (prime_of c.args.m.now) (base_of c.args.m.now) (fibre_of c.args.m.now) (values_of c.args.m.now) c.args.n c.args.y.now c.args.z.now) _ c.in-Value-3.twisted c.in-Value-3.is c.in_ok-over-3.ensures.found) c.in_ok-over-3.ensures.through).value_is),
+)

@@ -1,22 +1,18 @@
-use Rattle.std.proofs.Common.{◌≤◌, ◌^◌, ap, arith}
-use Rattle.std.proofs.lemmas.Result.{IfOk-weaker}
-use Rattle.fp_field.specs.Field.{number}
-use Rattle.fp_field.specs.Chains.{EachKey}
+use Rattle.std.proofs.Common.{◌^◌, ap, arith}
 use Rattle.chain_core.specs.Formal.{Formal}
 use Rattle.cells.specs.declared.cells.Cell.{Cell}
 use Rattle.tensor_red.specs.declared.tensors.Tensor.{Tensor as CodeTensor}
 use Rattle.values.specs.Asks.{gives, ◌>>=◌}
 use Rattle.part_asks.specs.Askers.{g_tensor, formal_tensors}
-use Rattle.part_asks.specs.Reading.{value_of}
 use Rattle.part_asks.proofs.Readings.{found-none, found-value, found-over}
 use Rattle.part_asks.proofs.RightStages.{valid-next, may-next, asked-next, refused-whole, refused-through, stage-asked, stage-none, stage-through}
-use Rattle.twist_chains.specs.Fibred.{read_pairs, read_tensors}
+use Rattle.twist_chains.specs.Fibred.{read_tensors}
 use Rattle.fibred_asks.specs.Asked.{prime_of, base_of, fibre_of, values_of, IsTensorIn}
-use Rattle.fibred_asks.specs.Parts.{formal_smalls, EachIn}
+use Rattle.fibred_asks.specs.Parts.{EachIn}
 use Rattle.fibred_asks.specs.Reached.{limited_reach}
-use Rattle.fibred_asks.specs.Reaches.{first_reach, second_reach, third_reach}
-use Rattle.fibred_asks.specs.Seconds.{h_on, p2_on, s2_on, f_on, series_room}
-use Rattle.fibred_asks.proofs.LastStages.{if-found, may-last, asked-last, through-last, found-last}
+use Rattle.fibred_asks.specs.Reaches.{second_reach}
+use Rattle.fibred_asks.specs.Seconds.{p2_on, series_room}
+use Rattle.fibred_asks.proofs.LastStages.{if-found}
 use Rattle.fibred_asks.proofs.Numbers.{series-within}
 use Rattle.fibred_asks.proofs.TensorKeys.{wider-tensors}
 use Rattle.fibred_asks.specs.Totals.{g_total}

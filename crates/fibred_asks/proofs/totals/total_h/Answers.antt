@@ -1,22 +1,18 @@
-use Rattle.std.proofs.Common.{suc, ◌+◌, ◌≡◌, ◌≤◌, ◌^◌, refl, sym, ◌∙◌, ap, subst, arith}
-use Rattle.std.proofs.lemmas.Result.{IfOk-weaker}
-use Rattle.fp_field.specs.Field.{number}
+use Rattle.std.proofs.Common.{suc, ◌+◌, ◌≡◌, ◌^◌, refl, sym, ◌∙◌, ap, subst, arith}
 use Rattle.fp_field.specs.Chains.{EachKey}
 use Rattle.chain_core.specs.Formal.{Formal}
 use Rattle.cells.specs.declared.cells.Cell.{Cell}
 use Rattle.tensor_red.specs.declared.tensors.Tensor.{Tensor as CodeTensor}
 use Rattle.values.specs.Asks.{gives, ◌>>=◌}
-use Rattle.part_asks.specs.Askers.{g_tensor, formal_tensors}
-use Rattle.part_asks.specs.Reading.{value_of}
+use Rattle.part_asks.specs.Askers.{formal_tensors}
 use Rattle.part_asks.proofs.Readings.{found-none, found-value, found-over}
 use Rattle.part_asks.proofs.RightStages.{valid-next, may-next, asked-next, refused-whole, refused-through, stage-asked, stage-none, stage-through}
 use Rattle.twist_chains.specs.Fibred.{read_pairs, read_tensors}
 use Rattle.fibred_asks.specs.Asked.{prime_of, base_of, fibre_of, values_of, IsTensorIn}
-use Rattle.fibred_asks.specs.Parts.{formal_smalls, EachIn}
-use Rattle.fibred_asks.specs.Reached.{limited_reach}
-use Rattle.fibred_asks.specs.Reaches.{first_reach, second_reach, third_reach}
-use Rattle.fibred_asks.specs.Seconds.{h_on, p2_on, s2_on, f_on, series_room}
-use Rattle.fibred_asks.proofs.LastStages.{if-found, may-last, asked-last, through-last, found-last}
+use Rattle.fibred_asks.specs.Parts.{EachIn}
+use Rattle.fibred_asks.specs.Reaches.{first_reach, second_reach}
+use Rattle.fibred_asks.specs.Seconds.{h_on, p2_on, series_room}
+use Rattle.fibred_asks.proofs.LastStages.{if-found}
 use Rattle.fibred_asks.proofs.Numbers.{series-within}
 use Rattle.fibred_asks.proofs.TensorKeys.{wider-tensors}
 use Rattle.cells.proofs.OneKey.{one_cell}
@@ -132,7 +128,9 @@ returns-clause-through g c =
     stage-through g.F.Forcer.forces (prime_of c.args.m.now) (h_total (prime_of c.args.m.now) (base_of c.args.m.now) (fibre_of c.args.m.now) (values_of c.args.m.now) c.args.n (read_pairs (base_of c.args.m.now) (fibre_of c.args.m.now) c.args.c.now.terms)) (both (prime_of c.args.m.now) (base_of c.args.m.now) (fibre_of c.args.m.now) (values_of c.args.m.now) c.args.n (read_pairs (base_of c.args.m.now) (fibre_of c.args.m.now) c.args.c.now.terms) (read_tensors (base_of c.args.m.now) (fibre_of c.args.m.now) c.in-Value-2.w.terms)) c.args.forcer.now c.second_p.new.forcer (T.ends g.F.Forcer.forces (prime_of c.args.m.now) (base_of c.args.m.now) (fibre_of c.args.m.now) c.requires.parts (values_of c.args.m.now) c.requires.values c.args.n c.requires.degree c.args.c.now.terms c.requires.pairs c.requires.valid c.args.forcer.now c.in_ok-u.u.terms c.in_ok-u.ensures.terms c.on_tensors.new.forcer c.in-Value.v (found-value (formal_tensors (prime_of c.args.m.now) (base_of c.args.m.now) (fibre_of c.args.m.now)) (prime_of c.args.m.now) (h_on (prime_of c.args.m.now) (base_of c.args.m.now) (fibre_of c.args.m.now) (values_of c.args.m.now) (read_tensors (base_of c.args.m.now) (fibre_of c.args.m.now) c.in_ok-u.u.terms)) _ c.in-Value.v c.in-Value.is c.in_ok-over.ensures.found) (found-none (formal_tensors (prime_of c.args.m.now) (base_of c.args.m.now) (fibre_of c.args.m.now)) (prime_of c.args.m.now) (h_on (prime_of c.args.m.now) (base_of c.args.m.now) (fibre_of c.args.m.now) (values_of c.args.m.now) (read_tensors (base_of c.args.m.now) (fibre_of c.args.m.now) c.in_ok-u.u.terms)) _ c.in-Value.v c.in-Value.is c.in_ok-over.ensures.found) c.in_ok-over.ensures.through (c.args.n + 1) (let e : c.args.n + 1 ≡ suc c.args.n = omega arith in e) c.second_p.new.forcer c.in-Value-2.w (found-value (formal_tensors (prime_of c.args.m.now) (base_of c.args.m.now) (fibre_of c.args.m.now)) (prime_of c.args.m.now) (p2_on (prime_of c.args.m.now) (base_of c.args.m.now) (fibre_of c.args.m.now) (values_of c.args.m.now) (c.args.n + 1) (read_tensors (base_of c.args.m.now) (fibre_of c.args.m.now) c.in-Value.v.terms)) _ c.in-Value-2.w c.in-Value-2.is c.in_ok-over-2.ensures.found) (found-none (formal_tensors (prime_of c.args.m.now) (base_of c.args.m.now) (fibre_of c.args.m.now)) (prime_of c.args.m.now) (p2_on (prime_of c.args.m.now) (base_of c.args.m.now) (fibre_of c.args.m.now) (values_of c.args.m.now) (c.args.n + 1) (read_tensors (base_of c.args.m.now) (fibre_of c.args.m.now) c.in-Value.v.terms)) _ c.in-Value-2.w c.in-Value-2.is c.in_ok-over-2.ensures.found) c.in_ok-over-2.ensures.through)
 
 pub returns-clause-found : goal.returns-clause-found
-returns-clause-found g c =
-    (stage-none g.F.Forcer.forces (prime_of c.args.m.now) (h_total (prime_of c.args.m.now) (base_of c.args.m.now) (fibre_of c.args.m.now) (values_of c.args.m.now) c.args.n (read_pairs (base_of c.args.m.now) (fibre_of c.args.m.now) c.args.c.now.terms)) (both (prime_of c.args.m.now) (base_of c.args.m.now) (fibre_of c.args.m.now) (values_of c.args.m.now) c.args.n (read_pairs (base_of c.args.m.now) (fibre_of c.args.m.now) c.args.c.now.terms) (read_tensors (base_of c.args.m.now) (fibre_of c.args.m.now) c.in-Value-2.w.terms)) c.args.forcer.now c.second_p.new.forcer (T.ends g.F.Forcer.forces (prime_of c.args.m.now) (base_of c.args.m.now) (fibre_of c.args.m.now) c.requires.parts (values_of c.args.m.now) c.requires.values c.args.n c.requires.degree c.args.c.now.terms c.requires.pairs c.requires.valid c.args.forcer.now c.in_ok-u.u.terms c.in_ok-u.ensures.terms c.on_tensors.new.forcer c.in-Value.v (found-value (formal_tensors (prime_of c.args.m.now) (base_of c.args.m.now) (fibre_of c.args.m.now)) (prime_of c.args.m.now) (h_on (prime_of c.args.m.now) (base_of c.args.m.now) (fibre_of c.args.m.now) (values_of c.args.m.now) (read_tensors (base_of c.args.m.now) (fibre_of c.args.m.now) c.in_ok-u.u.terms)) _ c.in-Value.v c.in-Value.is c.in_ok-over.ensures.found) (found-none (formal_tensors (prime_of c.args.m.now) (base_of c.args.m.now) (fibre_of c.args.m.now)) (prime_of c.args.m.now) (h_on (prime_of c.args.m.now) (base_of c.args.m.now) (fibre_of c.args.m.now) (values_of c.args.m.now) (read_tensors (base_of c.args.m.now) (fibre_of c.args.m.now) c.in_ok-u.u.terms)) _ c.in-Value.v c.in-Value.is c.in_ok-over.ensures.found) c.in_ok-over.ensures.through (c.args.n + 1) (let e : c.args.n + 1 ≡ suc c.args.n = omega arith in e) c.second_p.new.forcer c.in-Value-2.w (found-value (formal_tensors (prime_of c.args.m.now) (base_of c.args.m.now) (fibre_of c.args.m.now)) (prime_of c.args.m.now) (p2_on (prime_of c.args.m.now) (base_of c.args.m.now) (fibre_of c.args.m.now) (values_of c.args.m.now) (c.args.n + 1) (read_tensors (base_of c.args.m.now) (fibre_of c.args.m.now) c.in-Value.v.terms)) _ c.in-Value-2.w c.in-Value-2.is c.in_ok-over-2.ensures.found) (found-none (formal_tensors (prime_of c.args.m.now) (base_of c.args.m.now) (fibre_of c.args.m.now)) (prime_of c.args.m.now) (p2_on (prime_of c.args.m.now) (base_of c.args.m.now) (fibre_of c.args.m.now) (values_of c.args.m.now) (c.args.n + 1) (read_tensors (base_of c.args.m.now) (fibre_of c.args.m.now) c.in-Value.v.terms)) _ c.in-Value-2.w c.in-Value-2.is c.in_ok-over-2.ensures.found) c.in_ok-over-2.ensures.through), T.sum-found g.F.Forcer.forces (prime_of c.args.m.now) (base_of c.args.m.now) (fibre_of c.args.m.now) c.requires.parts (values_of c.args.m.now) c.requires.values c.args.n c.requires.degree c.args.c.now.terms c.requires.pairs c.requires.valid c.args.forcer.now c.in_ok-u.u.terms c.in_ok-u.ensures.terms c.on_tensors.new.forcer c.in-Value.v (found-value (formal_tensors (prime_of c.args.m.now) (base_of c.args.m.now) (fibre_of c.args.m.now)) (prime_of c.args.m.now) (h_on (prime_of c.args.m.now) (base_of c.args.m.now) (fibre_of c.args.m.now) (values_of c.args.m.now) (read_tensors (base_of c.args.m.now) (fibre_of c.args.m.now) c.in_ok-u.u.terms)) _ c.in-Value.v c.in-Value.is c.in_ok-over.ensures.found) (found-none (formal_tensors (prime_of c.args.m.now) (base_of c.args.m.now) (fibre_of c.args.m.now)) (prime_of c.args.m.now) (h_on (prime_of c.args.m.now) (base_of c.args.m.now) (fibre_of c.args.m.now) (values_of c.args.m.now) (read_tensors (base_of c.args.m.now) (fibre_of c.args.m.now) c.in_ok-u.u.terms)) _ c.in-Value.v c.in-Value.is c.in_ok-over.ensures.found) c.in_ok-over.ensures.through (c.args.n + 1) (let e : c.args.n + 1 ≡ suc c.args.n = omega arith in e) c.second_p.new.forcer c.in-Value-2.w (found-value (formal_tensors (prime_of c.args.m.now) (base_of c.args.m.now) (fibre_of c.args.m.now)) (prime_of c.args.m.now) (p2_on (prime_of c.args.m.now) (base_of c.args.m.now) (fibre_of c.args.m.now) (values_of c.args.m.now) (c.args.n + 1) (read_tensors (base_of c.args.m.now) (fibre_of c.args.m.now) c.in-Value.v.terms)) _ c.in-Value-2.w c.in-Value-2.is c.in_ok-over-2.ensures.found) (found-none (formal_tensors (prime_of c.args.m.now) (base_of c.args.m.now) (fibre_of c.args.m.now)) (prime_of c.args.m.now) (p2_on (prime_of c.args.m.now) (base_of c.args.m.now) (fibre_of c.args.m.now) (values_of c.args.m.now) (c.args.n + 1) (read_tensors (base_of c.args.m.now) (fibre_of c.args.m.now) c.in-Value.v.terms)) _ c.in-Value-2.w c.in-Value-2.is c.in_ok-over-2.ensures.found) c.in_ok-over-2.ensures.through second_reach (omega arith) (wider-tensors (base_of c.args.m.now) (fibre_of c.args.m.now) (series_room (values_of c.args.m.now) (c.args.n + 1) first_reach) second_reach (c.args.n + 1) (series-within (values_of c.args.m.now) (c.args.n + 1) (omega (arith, c.requires.degree)) first_reach second_reach (omega arith)) c.in-Value-2.w.terms
-    (if-found (EachIn (IsTensorIn c.args.m.now (series_room (values_of c.args.m.now) (c.args.n + 1) first_reach) (c.args.n + 1))) _ c.in-Value-2.w c.in-Value-2.is c.in_ok-over-2.ensures.tensors))
-    c.in_ok-sum_of.field-0 c.in_ok-raised.raised c.in_ok-lifted.lifted c.in_ok-raised.ensures.prime c.in_ok-raised.ensures.terms c.in_ok-lifted.ensures.terms c.in_ok-sum_of.ensures.prime c.in_ok-sum_of.ensures.sum)
+returns-clause-found g c = (
+  stage-none g.F.Forcer.forces (prime_of c.args.m.now) (h_total (prime_of c.args.m.now) (base_of c.args.m.now) (fibre_of c.args.m.now) (values_of c.args.m.now) c.args.n (read_pairs (base_of c.args.m.now) (fibre_of c.args.m.now) c.args.c.now.terms)) (both (prime_of c.args.m.now) (base_of c.args.m.now) (fibre_of c.args.m.now) (values_of c.args.m.now) c.args.n (read_pairs (base_of c.args.m.now) (fibre_of c.args.m.now) c.args.c.now.terms) (read_tensors (base_of c.args.m.now) (fibre_of c.args.m.now) c.in-Value-2.w.terms)) c.args.forcer.now c.second_p.new.forcer (T.ends g.F.Forcer.forces (prime_of c.args.m.now) (base_of c.args.m.now) (fibre_of c.args.m.now) c.requires.parts (values_of c.args.m.now) c.requires.values c.args.n c.requires.degree c.args.c.now.terms c.requires.pairs c.requires.valid c.args.forcer.now c.in_ok-u.u.terms c.in_ok-u.ensures.terms c.on_tensors.new.forcer c.in-Value.v (found-value (formal_tensors (prime_of c.args.m.now) (base_of c.args.m.now) (fibre_of c.args.m.now)) (prime_of c.args.m.now) (h_on (prime_of c.args.m.now) (base_of c.args.m.now) (fibre_of c.args.m.now) (values_of c.args.m.now) (read_tensors (base_of c.args.m.now) (fibre_of c.args.m.now) c.in_ok-u.u.terms)) _ c.in-Value.v c.in-Value.is c.in_ok-over.ensures.found) (found-none (formal_tensors (prime_of c.args.m.now) (base_of c.args.m.now) (fibre_of c.args.m.now)) (prime_of c.args.m.now) (h_on (prime_of c.args.m.now) (base_of c.args.m.now) (fibre_of c.args.m.now) (values_of c.args.m.now) (read_tensors (base_of c.args.m.now) (fibre_of c.args.m.now) c.in_ok-u.u.terms)) _ c.in-Value.v c.in-Value.is c.in_ok-over.ensures.found) c.in_ok-over.ensures.through (c.args.n + 1) (let e : c.args.n + 1 ≡ suc c.args.n = omega arith in e) c.second_p.new.forcer c.in-Value-2.w (found-value (formal_tensors (prime_of c.args.m.now) (base_of c.args.m.now) (fibre_of c.args.m.now)) (prime_of c.args.m.now) (p2_on (prime_of c.args.m.now) (base_of c.args.m.now) (fibre_of c.args.m.now) (values_of c.args.m.now) (c.args.n + 1) (read_tensors (base_of c.args.m.now) (fibre_of c.args.m.now) c.in-Value.v.terms)) _ c.in-Value-2.w c.in-Value-2.is c.in_ok-over-2.ensures.found) (found-none (formal_tensors (prime_of c.args.m.now) (base_of c.args.m.now) (fibre_of c.args.m.now)) (prime_of c.args.m.now) (p2_on (prime_of c.args.m.now) (base_of c.args.m.now) (fibre_of c.args.m.now) (values_of c.args.m.now) (c.args.n + 1) (read_tensors (base_of c.args.m.now) (fibre_of c.args.m.now) c.in-Value.v.terms)) _ c.in-Value-2.w c.in-Value-2.is c.in_ok-over-2.ensures.found) c.in_ok-over-2.ensures.through),
+  T.sum-found g.F.Forcer.forces (prime_of c.args.m.now) (base_of c.args.m.now) (fibre_of c.args.m.now) c.requires.parts (values_of c.args.m.now) c.requires.values c.args.n c.requires.degree c.args.c.now.terms c.requires.pairs c.requires.valid c.args.forcer.now c.in_ok-u.u.terms c.in_ok-u.ensures.terms c.on_tensors.new.forcer c.in-Value.v (found-value (formal_tensors (prime_of c.args.m.now) (base_of c.args.m.now) (fibre_of c.args.m.now)) (prime_of c.args.m.now) (h_on (prime_of c.args.m.now) (base_of c.args.m.now) (fibre_of c.args.m.now) (values_of c.args.m.now) (read_tensors (base_of c.args.m.now) (fibre_of c.args.m.now) c.in_ok-u.u.terms)) _ c.in-Value.v c.in-Value.is c.in_ok-over.ensures.found) (found-none (formal_tensors (prime_of c.args.m.now) (base_of c.args.m.now) (fibre_of c.args.m.now)) (prime_of c.args.m.now) (h_on (prime_of c.args.m.now) (base_of c.args.m.now) (fibre_of c.args.m.now) (values_of c.args.m.now) (read_tensors (base_of c.args.m.now) (fibre_of c.args.m.now) c.in_ok-u.u.terms)) _ c.in-Value.v c.in-Value.is c.in_ok-over.ensures.found) c.in_ok-over.ensures.through (c.args.n + 1) (let e : c.args.n + 1 ≡ suc c.args.n = omega arith in e) c.second_p.new.forcer c.in-Value-2.w (found-value (formal_tensors (prime_of c.args.m.now) (base_of c.args.m.now) (fibre_of c.args.m.now)) (prime_of c.args.m.now) (p2_on (prime_of c.args.m.now) (base_of c.args.m.now) (fibre_of c.args.m.now) (values_of c.args.m.now) (c.args.n + 1) (read_tensors (base_of c.args.m.now) (fibre_of c.args.m.now) c.in-Value.v.terms)) _ c.in-Value-2.w c.in-Value-2.is c.in_ok-over-2.ensures.found) (found-none (formal_tensors (prime_of c.args.m.now) (base_of c.args.m.now) (fibre_of c.args.m.now)) (prime_of c.args.m.now) (p2_on (prime_of c.args.m.now) (base_of c.args.m.now) (fibre_of c.args.m.now) (values_of c.args.m.now) (c.args.n + 1) (read_tensors (base_of c.args.m.now) (fibre_of c.args.m.now) c.in-Value.v.terms)) _ c.in-Value-2.w c.in-Value-2.is c.in_ok-over-2.ensures.found) c.in_ok-over-2.ensures.through second_reach (omega arith) (wider-tensors (base_of c.args.m.now) (fibre_of c.args.m.now) (series_room (values_of c.args.m.now) (c.args.n + 1) first_reach) second_reach (c.args.n + 1) (series-within (values_of c.args.m.now) (c.args.n + 1) (omega (arith, c.requires.degree)) first_reach second_reach (omega arith)) c.in-Value-2.w.terms
+      (if-found (EachIn (IsTensorIn c.args.m.now (series_room (values_of c.args.m.now) (c.args.n + 1) first_reach) (c.args.n + 1))) _ c.in-Value-2.w c.in-Value-2.is c.in_ok-over-2.ensures.tensors))
+      c.in_ok-sum_of.field-0 c.in_ok-raised.raised c.in_ok-lifted.lifted c.in_ok-raised.ensures.prime c.in_ok-raised.ensures.terms c.in_ok-lifted.ensures.terms c.in_ok-sum_of.ensures.prime c.in_ok-sum_of.ensures.sum,
+)

@@ -1,12 +1,10 @@
-use Rattle.std.proofs.Common.{◌+◌, ◌≡◌, refl, sym, ap, subst, arith}
-use Rattle.fp_field.specs.Field.{number}
+use Rattle.std.proofs.Common.{◌+◌, sym, subst, arith}
 use Rattle.homology_rules.specs.Asking.{MayForceEach, AskedFirst, EachAnswered, up_to_refusal}
 use Rattle.part_asks.specs.declared.found.Found.TheVariants.{Value as FoundValue, Over as FoundOver}
 use Rattle.part_asks.specs.Reading.{IsFound}
-use Rattle.twist_chains.specs.Fibred.{read_pairs}
 use Rattle.fibred_asks.specs.Asked.{prime_of, base_of as base_held, fibre_of as fibre_held, values_of}
 use Rattle.fibred_asks.specs.Parts.{formal_smalls}
-use Rattle.fibred_asks.specs.Totals.{d_total, formal_pairs}
+use Rattle.fibred_asks.specs.Totals.{d_total}
 use Rattle.twist_rules.proofs.KeyFound.{held-twist, held-parts, d-serves, d-smalls}
 use Rattle.twist_rules.proofs.PartNames.{built-assembled}
 use Rattle.twist_rules.proofs.found_at.d_found.Goals as goal

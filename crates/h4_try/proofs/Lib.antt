@@ -1,2 +1,0 @@
-pub mod SmallSteps
-pub mod SmallValues
