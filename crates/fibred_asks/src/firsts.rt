@@ -1,5 +1,5 @@
 // The first perturbation of a product or a circle bundle, on chains whose reach is past no limit or has grown from such.
-ghost use Rattle.std.specs.Prelude.{◌≡◌, suc, ◌-◌, ◌≤◌, IfOk};
+ghost use Rattle.std.specs.Prelude.{◌≡◌, ◌-◌, ◌≤◌, IfOk};
 ghost use Rattle.fp_field.specs.Field.{number};
 ghost use Rattle.fp_field.specs.Chains.{EachKey};
 ghost use Rattle.twist_chains.specs.Fibred.{tensors_of, lifted_of, homotopy_of, difference_of};
