@@ -1,9 +1,8 @@
 -- A cell of a product or a circle bundle as a pair of base and fibre, and the right sides of F and H at it.
-use Rattle.std.proofs.Common.{◌≡◌, ℕ, suc, ◌+◌, ◌<◌, ◌≤◌, List, [], Option, Some, None, ℤ, refl, sym, ◌∙◌, ap, arith}
+use Rattle.std.proofs.Common.{◌≡◌, ℕ, ◌<◌, ◌≤◌, List, Option, Some, None, ℤ, refl, sym, ◌∙◌, ap, arith}
 use Rattle.std.specs.Prelude.{max}
 use Rattle.fp_field.specs.declared.prime.Prime.{Prime}
 use Rattle.fp_field.specs.Field.{number}
-use Rattle.fp_field.specs.Chains.{Terms}
 use Rattle.fp_field.specs.Reduction.{one}
 use Rattle.fp_field.proofs.Primes.{number_pos}
 use Rattle.chain_core.specs.Formal.{Formal}
@@ -12,7 +11,7 @@ use Rattle.spaces.specs.Spaces.{Space, table, sphere, product, suspension, kz1, 
 use Rattle.spaces.specs.Orders.{ordered}
 use Rattle.spaces.specs.EilenbergZilber.{Pair, linear}
 use Rattle.cells.specs.Dim.{dim_of}
-use Rattle.cells.specs.declared.cells.Cell.{Cell, out-Cell}
+use Rattle.cells.specs.declared.cells.Cell.{Cell}
 use Rattle.cells.specs.declared.cells.Cell.TheVariants.{Pair as PairCell}
 use Rattle.cells.specs.declared.cells.SmallCell.{SmallCell}
 use Rattle.cells.specs.declared.cells.Simplex.{Simplex}
@@ -20,11 +19,9 @@ use Rattle.term_lang.specs.Forms.{form, vertex_of}
 use Rattle.term_lang.specs.Quote.{quote, quote_cell}
 use Rattle.normal_forms.specs.Built.{IsBuilt}
 use Rattle.values.specs.Asks.{f as f_at, h as h_at, asked_with}
-use Rattle.values.specs.Perturbed.{total_h}
 use Rattle.values.specs.Ranks.{IsCell}
-use Rattle.values.specs.Rules.{part, as_cells, bundle_twist}
+use Rattle.values.specs.Rules.{as_cells}
 use Rattle.values.specs.Sizes.{integer}
-use Rattle.values.specs.Twists.{untwisted}
 use Rattle.values.specs.Values.{value, right_side}
 use Rattle.oracle_iface.specs.declared.bodies.Body.TheVariants.{Small as SmallBody, Big as BigBody}
 use Rattle.oracle_iface.specs.Keys.{quote_body, formal, quote_chain}
@@ -38,7 +35,7 @@ use Rattle.ez_flow.specs.Parts.{HasSimplex}
 use Rattle.ez_flow.proofs.PairCells.{out-pair, weight-pair}
 use Rattle.part_asks.specs.declared.found.Found.{Found}
 use Rattle.part_asks.specs.Reading.{IsFound}
-use Rattle.twist_chains.specs.Fibred.{twist_by, AreTwistValues, IsPairWithin, pair_form, simplex_in}
+use Rattle.twist_chains.specs.Fibred.{AreTwistValues, IsPairWithin, pair_form, simplex_in}
 use Rattle.twist_chains.proofs.CodeKeys as C
 use Rattle.twist_chains.proofs.FirstParts.{parts-within}
 use Rattle.twist_laws.proofs.Instances.{products-same, bundles-same}

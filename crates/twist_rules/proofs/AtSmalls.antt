@@ -1,29 +1,24 @@
 -- A small cell of a product or a circle bundle as a pair of small cells of base and fibre, and the right sides of G and the small differential
 -- at it.
-use Rattle.std.proofs.Common.{◌≡◌, ℕ, ◌+◌, List, Option, Some, None, ℤ, refl, sym, ◌∙◌, ap, subst}
+use Rattle.std.proofs.Common.{◌≡◌, ◌+◌, List, Option, Some, None, ℤ, refl, sym, ◌∙◌, ap, subst}
 use Rattle.fp_field.specs.declared.prime.Prime.{Prime}
 use Rattle.fp_field.specs.Field.{number}
 use Rattle.chain_core.specs.Formal.{Formal}
 use Rattle.spaces.specs.Spaces.{Space, table, sphere, product, suspension, kz1, bundle, loops, paths, kzm1, cyclic_bundle}
 use Rattle.spaces.specs.SmallCells.{Small, small_degree}
-use Rattle.spaces.specs.Orders.{ordered}
-use Rattle.spaces.specs.EilenbergZilber.{linear}
 use Rattle.cells.specs.declared.cells.Cell.{Cell}
 use Rattle.cells.specs.declared.cells.Cell.TheVariants.{Base}
 use Rattle.cells.specs.declared.cells.SmallCell.{SmallCell, roll-SmallCell, out-SmallCell, out-roll-SmallCell, fold-roll-SmallCell, map-SmallCell}
 use Rattle.cells.specs.declared.cells.SmallCell.TheOpen.{SmallCell-F}
 use Rattle.cells.specs.declared.cells.SmallCell.TheVariants.{One, Pair, rolls-Pair}
 use Rattle.values.specs.Asks.{g as g_at, small_d as d_at, asked_with}
-use Rattle.values.specs.Perturbed.{total_g, total_d}
-use Rattle.values.specs.Rules.{part, as_cells, bundle_twist}
-use Rattle.values.specs.Twists.{untwisted}
+use Rattle.values.specs.Rules.{as_cells}
 use Rattle.values.specs.Values.{value, right_side}
 use Rattle.oracle_iface.specs.declared.bodies.Body.TheVariants.{Small as SmallBody, Big as BigBody}
 use Rattle.oracle_iface.specs.Keys.{quote_body, formal, quote_chain}
 use Rattle.oracle_iface.specs.SmallForms.{SmallForm, small_step, small_form, quote_small}
 use Rattle.part_asks.specs.declared.found.Found.{Found}
 use Rattle.part_asks.specs.Reading.{IsFound}
-use Rattle.twist_chains.specs.Fibred.{twist_by}
 use Rattle.fibred_asks.specs.Parts.{formal_smalls}
 use Rattle.fibred_asks.specs.Totals.{g_total, d_total, formal_pairs}
 use Rattle.twist_rules.specs.PartMaps.{twist_of}

@@ -1,17 +1,17 @@
 -- What is found along the right side of a map is found, as a value of the code, for the right side of the rule.
-use Rattle.std.proofs.Common.{◌≡◌, ℕ, List, [], ◌∷◌, refl, sym, ◌∙◌, ap}
+use Rattle.std.proofs.Common.{◌≡◌, List, [], ◌∷◌, refl, sym, ◌∙◌, ap}
 use Rattle.std.proofs.lemmas.List.{append-nil}
 use Rattle.fp_field.specs.declared.prime.Prime.{Prime}
 use Rattle.fp_field.specs.Field.{number}
 use Rattle.fp_field.specs.Chains.{Terms}
 use Rattle.chain_core.specs.Formal.{Formal}
 use Rattle.spaces.specs.Spaces.{Space, Plain, product, bundle, table, kz1}
-use Rattle.spaces.specs.SmallCells.{Small}
 use Rattle.spaces.specs.Tables.{Table}
 use Rattle.std.specs.Prelude.{ℤ}
 use Rattle.spaces.specs.EilenbergZilber.{Pair}
 use Rattle.cells.specs.declared.cells.Cell.{Cell}
 use Rattle.cells.specs.declared.cells.SmallCell.{SmallCell}
+use Rattle.term_lang.specs.Quote.{quote_cell}
 use Rattle.values.specs.Asks.{Right, gives, ◌>>=◌, asked_with}
 use Rattle.values.specs.Rules.{as_cells}
 use Rattle.values.specs.Values.{value}
@@ -25,7 +25,6 @@ use Rattle.part_asks.specs.declared.found.Found.TheVariants.{Value, Over}
 use Rattle.part_asks.specs.Reading.{value_of, IsFound}
 use Rattle.part_asks.proofs.Readings.{keys-then, value-bind}
 use Rattle.twist_chains.specs.Fibred.{quote_pairs}
-use Rattle.fibred_asks.specs.Parts.{formal_smalls}
 use Rattle.fibred_asks.specs.Totals.{formal_pairs}
 
 -- what is found, as a body
@@ -55,11 +54,11 @@ module _ (p : Prime) where
   -- the cells of pairs are quoted as the pairs are
   product-cells : (a b : Space) (c : Terms (Pair (Plain a) (Plain b))) → quote_chain (product a b) (as_cells c) ≡ quote_pairs a b c
   product-cells a b [] = refl
-  product-cells a b (t ∷ c) = ap (λ z. _ ∷ z) (product-cells a b c)
+  product-cells a b (t ∷ c) = ap (λ z. (quote_cell (product a b) t.0.0 (t.0.1, t.0.2), t.1) ∷ z) (product-cells a b c)
 
   bundle-cells : (t : Table) (values : List ℤ) (c : Terms (Pair (Plain (table t)) (Plain kz1))) → quote_chain (bundle t values) (as_cells c) ≡ quote_pairs (table t) kz1 c
   bundle-cells t values [] = refl
-  bundle-cells t values (u ∷ c) = ap (λ z. _ ∷ z) (bundle-cells t values c)
+  bundle-cells t values (u ∷ c) = ap (λ z. (quote_cell (bundle t values) u.0.0 (u.0.1, u.0.2), u.1) ∷ z) (bundle-cells t values c)
 
   pub product-formal : (a b : Space) (c : Terms (Pair (Plain a) (Plain b))) → formal p (quote_chain (product a b) (as_cells c)) ≡ formal_pairs p a b c
   product-formal a b c = ap (formal p) (product-cells a b c)

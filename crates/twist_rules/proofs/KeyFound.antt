@@ -1,12 +1,11 @@
 -- The evaluation of a map of a product or a circle bundle at the place of a key is that of the key's right side.
-use Rattle.std.proofs.Common.{◌≡◌, ℕ, ◌+◌, ◌<◌, ◌≤◌, ◌%◌, List, [], ◌∷◌, map, Option, Some, None, ℤ, Bool, true, false, nat_lt, ◌⊎◌, inl, inr, refl, sym, ◌∙◌, ap, subst, arith}
+use Rattle.std.proofs.Common.{◌≡◌, ℕ, ◌+◌, ◌≤◌, List, [], ◌∷◌, map, Option, Some, None, ℤ, Bool, true, false, nat_lt, ◌⊎◌, inl, inr, refl, sym, ◌∙◌, ap, subst, arith}
 use Rattle.std.specs.List.{AllByRecursion as Every}
 use Rattle.std.proofs.lemmas.Bool.Decides.{nat_tests}
 use Rattle.fp_field.specs.declared.prime.Prime.{Prime}
 use Rattle.fp_field.specs.Field.{number}
 use Rattle.fp_field.specs.Chains.{Terms, Each}
 use Rattle.fp_field.specs.Reduction.{one}
-use Rattle.chain_core.specs.Formal.{Formal}
 use Rattle.spaces.specs.Allowed.{IsAllowed}
 use Rattle.spaces.specs.Spaces.{Space, table, sphere, product, suspension, kz1, bundle, loops, paths, kzm1, cyclic_bundle}
 use Rattle.spaces.specs.SmallCells.{Small, small_degree}
@@ -66,7 +65,7 @@ use Rattle.twist_rules.proofs.PartNames.{built-assembled}
 
 -- ---- limits at a place
 
-not-past : (b : Bool) (k : Kind) (n : ℕ) (rest : Option (Kind × ℕ)) → elim b [ true ↦ Some (k, n) | false ↦ rest ] ≡ None → (b ≡ false) × (rest ≡ None)
+not-past : (b : Bool) (k : Kind) (n : ℕ) (rest : Option (Kind × ℕ)) → (let o : Option (Kind × ℕ) = elim b [ true ↦ Some (k, n) | false ↦ rest ] in o) ≡ None → (b ≡ false) × (rest ≡ None)
 not-past true k n rest e = absurd (cc)
 not-past false k n rest e = (refl, e)
 

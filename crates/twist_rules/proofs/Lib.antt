@@ -7,6 +7,7 @@ pub mod NeedsAnswered
 pub mod FibredBases
 pub mod PartNames
 pub mod PartNeeds
+pub mod OneChains
 pub mod FoundBodies
 pub mod AtCells
 pub mod AtSmalls

@@ -14,6 +14,7 @@ ghost use Rattle.twist_rules.specs.Concluded.{keys_needed, IsFoundFor};
 ghost use Rattle.twist_rules.specs.PartMaps.{AreMapsOf};
 ghost use Rattle.twist_rules.specs.PartSpaces.{IsFibred};
 
+use crate::laws::assembled_values;
 use cells::{Cell, copy_cell, dim, small_degree};
 use chain_core::Chain;
 use fibred_asks::{Maps, limited_reaches, reached_values, total_d, total_f, total_g, total_h};
@@ -22,8 +23,6 @@ use oracle_iface::{Body, Forcer, Key};
 use part_asks::Found;
 use std::alloc::{AllocError, Global};
 use term_lang::SmallCell;
-
-use crate::laws::assembled_values;
 
 /// The chain of one cell with the coefficient 1.
 fn single(alloc: Global, p: Prime, x: &Cell) -> Result<Chain<Cell>, AllocError>

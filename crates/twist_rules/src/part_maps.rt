@@ -29,12 +29,12 @@ pub(crate) fn values_in(term: &Term) -> Option<&IntList>
 {
     match term {
         Term::Bundle(_, values) => Some(values),
-        Term::Table(_)
-        | Term::Sphere(_)
-        | Term::Product(_, _)
-        | Term::Suspension(_)
-        | Term::KZ1
-        | Term::Loop(_)
-        | Term::Path(_) => None,
+        Term::Table(_) => None,
+        Term::Sphere(_) => None,
+        Term::Product(_, _) => None,
+        Term::Suspension(_) => None,
+        Term::KZ1 => None,
+        Term::Loop(_) => None,
+        Term::Path(_) => None,
     }
 }

@@ -82,11 +82,7 @@ fn maps_found<F: Forcer>(
 }
 
 /// What the right side of the rule of a key comes to.
-fn found<F: Forcer>(
-    alloc: Global,
-    key: &Key,
-    forcer: &mut F,
-) -> Result<Found<Body>, AllocError>
+fn found<F: Forcer>(alloc: Global, key: &Key, forcer: &mut F) -> Result<Found<Body>, AllocError>
     requires valid { IsValidKey key.now }
     requires space { IsFibred (space_of key.now.term) × IsBuilt (space_of key.now.term) }
     requires op { key.now.op ≡ Cycles → ⊥ }
@@ -103,11 +99,7 @@ fn found<F: Forcer>(
 }
 
 /// The outcome of a key whose place is within the limits.
-fn within_limits<F: Forcer>(
-    alloc: Global,
-    key: &Key,
-    forcer: &mut F,
-) -> Result<Outcome, AllocError>
+fn within_limits<F: Forcer>(alloc: Global, key: &Key, forcer: &mut F) -> Result<Outcome, AllocError>
     requires valid { IsValidKey key.now }
     requires space { IsFibred (space_of key.now.term) × IsBuilt (space_of key.now.term) }
     requires op { key.now.op ≡ Cycles → ⊥ }
