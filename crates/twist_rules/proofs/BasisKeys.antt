@@ -1,6 +1,5 @@
 -- The keys of the small cells of a degree of a product or a circle bundle are those of its right side, and how they are listed.
-use Rattle.std.proofs.Common.{◌≡◌, ℕ, suc, ◌+◌, ◌-◌, ◌<◌, ◌≤◌, List, [], ◌∷◌, ◌++◌, map, refl, sym, ◌∙◌, ap, subst, arith}
-use Rattle.std.specs.List.{AllByRecursion as Every}
+use Rattle.std.proofs.Common.{◌≡◌, ℕ, suc, ◌+◌, ◌-◌, ◌<◌, ◌≤◌, List, [], ◌∷◌, ◌++◌, map, refl, sym, ◌∙◌, ap, arith}
 use Rattle.std.proofs.lemmas.List.{append-nil}
 use Rattle.fp_field.specs.declared.prime.Prime.{Prime}
 use Rattle.fp_field.specs.Field.{number}
@@ -15,9 +14,7 @@ use Rattle.values.proofs.Readings.{value_with-bind, asked_with-bind}
 use Rattle.oracle_iface.specs.declared.keys.Key.{Key}
 use Rattle.oracle_iface.specs.declared.keys.Op.TheVariants.{Basis}
 use Rattle.oracle_iface.specs.declared.keys.Place.TheVariants.{Degree}
-use Rattle.oracle_iface.specs.KeyLaws.{IsNamed, IsReadBack}
 use Rattle.oracle_iface.specs.Keys.{key_of}
-use Rattle.oracle_iface.proofs.KeysBack.{basis-back}
 use Rattle.oracle_iface.proofs.Named.{term-back}
 use Rattle.twist_rules.specs.PairBases.{basis_key, basis_keys}
 use Rattle.part_asks.specs.Reading.{keys_of}
@@ -39,13 +36,6 @@ module _ (a b : Space) (p n : ℕ) where
       → value_with (value p) (pairs_of_degree a b n (i ∷ is))
       ≡ all_pairs (value p (basis a i)) (value p (basis b (n - i))) ++ value_with (value p) (pairs_of_degree a b n is)
   value-more i is = value_with-bind (value p) (pairs_of_degree a b n is) (rest i is)
-
--- the questions are read back from their keys
-pub pairs-back : (p : Prime) (a b : Space) (n : ℕ) → IsNamed a → IsNamed b → (is : List ℕ)
-    → Every (IsReadBack p) (asked_with (value (number p)) (pairs_of_degree a b n is))
-pairs-back p a b n s t [] = tt
-pairs-back p a b n s t (i ∷ is) =
-    subst (Every (IsReadBack p)) (sym (asked-more a b (number p) n i is)) (basis-back p a s i, (basis-back p b t (n - i), pairs-back p a b n s t is))
 
 module _ (p : Prime) (s t : Term) (n : ℕ) where
   pub keys-are : (is : List ℕ) → basis_keys p s t n is ≡ keys_of p (pairs_of_degree (space_of s) (space_of t) n is)

@@ -1,8 +1,6 @@
 -- Keys for the small cells of a degree of a product or a circle bundle.
 use Rattle.std.proofs.Common.{◌≡◌, ℕ, suc, ◌+◌, ◌<◌, ◌≤◌, ◌^◌, map, refl, sym, ◌∙◌, ap, subst, arith}
-use Rattle.std.specs.List.{AllByRecursion as Every}
-use Rattle.std.specs.Prelude.{None, Result, Ok, Err, IfOk}
-use Rattle.std.proofs.lemmas.List.Elements.{All-from_recursion}
+use Rattle.std.specs.Prelude.{Result, Ok, Err, IfOk}
 use Rattle.fp_field.specs.declared.prime.Prime.{Prime}
 use Rattle.fp_field.specs.Field.{number}
 use Rattle.spaces.specs.Spaces.{Space, table, sphere, product, suspension, kz1, bundle, loops, paths, kzm1, cyclic_bundle}
@@ -17,20 +15,13 @@ use Rattle.oracle_iface.specs.declared.keys.Op.TheVariants.{Basis}
 use Rattle.oracle_iface.specs.declared.keys.Place.TheVariants.{Degree}
 use Rattle.oracle_iface.specs.declared.bodies.Body.{Body}
 use Rattle.oracle_iface.specs.declared.bodies.Body.TheVariants.{Cells}
-use Rattle.oracle_iface.specs.KeyLaws.{IsReadBack}
 use Rattle.oracle_iface.specs.Keys.{question_at, question_of, needs_of, key_of, quote_body, IsValidKey}
-use Rattle.oracle_iface.specs.Limits.{kind_past}
-use Rattle.oracle_iface.specs.Terms.{term_of}
-use Rattle.oracle_iface.proofs.Named.{named-space}
 use Rattle.oracle_iface.proofs.ValidPlaces.{basis-degree}
-use Rattle.susp_rules.specs.Places.{size_at}
 use Rattle.part_asks.specs.declared.found.Found.{Found}
 use Rattle.twist_rules.specs.PartSpaces.{IsFibred, base_of, fibre_of}
 use Rattle.twist_rules.specs.PairBases.{quote_pairs}
 use Rattle.part_asks.specs.Reading.{keys_of, IsFound}
-use Rattle.twist_rules.specs.Concluded.{keys_needed, IsFoundFor, NeedsReadBack}
-use Rattle.twist_rules.proofs.BasisKeys.{pairs-back}
-use Rattle.twist_rules.proofs.PartNames.{base-named, fibre-named}
+use Rattle.twist_rules.specs.Concluded.{keys_needed, IsFoundFor}
 
 -- the needs of such a question are those of the pairs, and what is found for the pairs is found for it
 record IsByPairs (p : Prime) (s : Space) (n : ℕ) : Type 0 where
@@ -61,9 +52,6 @@ module _ (k : Key) (u : IsFibred (space_of k.term)) (op_is : k.op ≡ Basis) (n 
   pub degree-low : IsValidKey k → n + 1 < 2 ^ 32
   degree-low is = let v : IsValid (number k.prime) (basis s n) = subst (IsValid (number k.prime)) question-is is.question in let l : n + loopings s ≤ 24 = v.2 in omega (arith, l)
 
-  pub within-limits : kind_past (size_at k.place) ≡ None
-  within-limits = ap (λ x. kind_past (size_at x)) place_is
-
   module _ (x y : Term) (base_is : space_of x ≡ base_of s) (fibre_is : space_of y ≡ fibre_of s) where
     asked-are : asked_with (value (number k.prime)) (pairs_of_degree (space_of x) (space_of y) n (numbers 0 (suc n))) ≡ needs_of k
     asked-are =
@@ -73,11 +61,6 @@ module _ (k : Key) (u : IsFibred (space_of k.term)) (op_is : k.op ≡ Basis) (n 
     pub keys-needed : keys_of k.prime (pairs_of_degree (space_of x) (space_of y) n (numbers 0 (suc n))) ≡ keys_needed k
     keys-needed = ap (map (key_of k.prime)) asked-are
 
-    pub needs-back : NeedsReadBack k
-    needs-back =
-        All-from_recursion (IsReadBack k.prime) (needs_of k)
-        (subst (Every (IsReadBack k.prime)) asked-are (pairs-back k.prime (space_of x) (space_of y) n (named-space x) (named-space y) (numbers 0 (suc n))))
-
     pub found-for : (o : Found Body)
         → IsFound (λ ys. Cells (quote_pairs (space_of x) (space_of y) ys)) k.prime (pairs_of_degree (space_of x) (space_of y) n (numbers 0 (suc n))) o → IsFoundFor k o
     found-for o h =
@@ -85,19 +68,10 @@ module _ (k : Key) (u : IsFibred (space_of k.term)) (op_is : k.op ≡ Basis) (n 
         ((by-pairs k.prime s n u).found o
         (subst (λ (c : Space × Space). IsFound (λ ys. Cells (quote_pairs c.0 c.1 ys)) k.prime (pairs_of_degree c.0 c.1 n (numbers 0 (suc n))) o) (λ i. (base_is i, fibre_is i)) h))
 
--- its needs are read back, and its place is within the limits
+-- its place is in a degree
 module _ (k : Key) (is : IsValidKey k) (u : IsFibred (space_of k.term)) (op_is : k.op ≡ Basis) where
   pub degree-of : (n : ℕ) × (k.place ≡ Degree n)
   degree-of = let d = basis-degree k is op_is in (d.0, d.1)
-
-  pub basis-within : kind_past (size_at k.place) ≡ None
-  basis-within = within-limits k u op_is degree-of.0 degree-of.1
-
-  pub basis-read_back : NeedsReadBack k
-  basis-read_back =
-      let named = named-space k.term in
-      needs-back k u op_is degree-of.0 degree-of.1 (term_of (base_of (space_of k.term))) (term_of (fibre_of (space_of k.term)))
-      (base-named (space_of k.term) u named) (fibre-named (space_of k.term) u named)
 
 -- ---- results
 

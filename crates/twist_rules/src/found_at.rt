@@ -1,5 +1,5 @@
 // What the right sides of the maps of a product or a circle bundle come to, at the place of a key.
-ghost use Rattle.std.specs.Prelude.{◌≡◌, ◌≤◌, IfOk, None};
+ghost use Rattle.std.specs.Prelude.{◌≡◌, IfOk, None};
 ghost use Rattle.fp_field.specs.Reduction.{one};
 ghost use Rattle.term_lang.specs.SpaceOf.{space_of};
 ghost use Rattle.normal_forms.specs.Built.{IsBuilt};
