@@ -42,7 +42,7 @@ use Rattle.twist_laws.proofs.Instances.{products-same, bundles-same}
 use Rattle.fibred_asks.specs.Parts.{formal_smalls}
 use Rattle.fibred_asks.specs.Reached.{limited_reach}
 use Rattle.fibred_asks.specs.Totals.{f_total, h_total, formal_pairs}
-use Rattle.fibred_asks.proofs.TensorKeys.{has-simplex}
+use Rattle.fibred_asks.proofs.TotalKeys.{has-simplex}
 use Rattle.twist_rules.specs.PartMaps.{twist_of}
 use Rattle.twist_rules.specs.PartSpaces.{IsFibred, base_of, fibre_of}
 use Rattle.twist_rules.proofs.FoundBodies.{with_body, small-found, asked-then, big-found, product-formal, bundle-formal}
