@@ -1785,8 +1785,7 @@ chain (1 <0:*,|1|>) (2 <0:*,|3|>) (1 <0:*,|5|>) (1 <0:*,|7|>)
 (setf x (bundle (sphere 2) (S3 1)))
 (setf x (bundle (sphere 2) (S2 1) (S2 200000)))
 (setf x (bundle (sphere 2) (S2 200000) (S2 1)))
-(setf w (table (v) (t 0:v 0:v 0:v) (w t 1-0:v 1-0:v 1-0:v)))
-(setf x (bundle w (t 3)))
+(setf x (bundle (table (v) (t 0:v 0:v 0:v) (w t 1-0:v 1-0:v 1-0:v)) (t 3)))
 (setf x (table))
 (setf x (table (e e e)))
 (setf x (table (v) (e v v) (e v v)))
@@ -1836,7 +1835,6 @@ error term base-not-table
 error cocycle unknown-cell 1
 error cocycle repeated-cell 2
 error over integer 200000
-defined w
 error cocycle not-closed 2 3
 error table no-vertex
 error table no-vertex
