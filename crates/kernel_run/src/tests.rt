@@ -7,7 +7,7 @@ use crate::examples::EXAMPLES;
 use fp_field::Prime;
 use memo_book::{Book, new_book};
 use oracle_iface::{Key, Op, Place};
-use port_io::{Port, PortBox, WordList, mem_port};
+use port_io::{MemPort, Port, PortBox, WordList, mem_port};
 use seqs::Arc;
 use std::alloc::{AllocError, Global};
 use std::process::Abort;
@@ -248,5 +248,35 @@ fn two_sessions_use_one_table(rt: HostRuntime) -> Result<(), Fail> {
     }
     // Five keys, each claimed once and published once.
     assert_eq!(rt; (book.keys().len(), book.journal().len()), (5, 10));
+    Ok(())
+}
+
+// A session that asks for the maps of the circle bundle of the value 2 over the 2-sphere, over a table.
+fn ask_for_the_bundle(alloc: Global, book: &mut Book) -> Result<MemPort, AllocError>
+    requires { HoldsNone 0 (λ k. 0) (front book.old) }
+    ensures { HoldsNone 0 (λ k. 0) (front book.new) }
+{
+    let script =
+        b"(setf b (bundle (sphere 2) (S2 2)))\n(homology b 2)\n(express b 1 (1 <0:*,|2|>))\n";
+    let mut port = mem_port(alloc, script, 16, 4096, &[], &[])?;
+    run_session(alloc, &mut port, book);
+    Ok(port)
+}
+
+#[test]
+fn a_second_session_adds_no_step(rt: HostRuntime) -> Result<(), Fail> {
+    let alloc = rt.alloc();
+    let mut book = new_book(alloc);
+    let first = ask_for_the_bundle(alloc, &mut book)?;
+    let (keys, steps) = (book.keys().len(), book.journal().len());
+    let second = ask_for_the_bundle(alloc, &mut book)?;
+    // The small differential is 0 at S2 and |, so that G there is listed; F at the cell is 0, and H there is printed.
+    let replies =
+        b"defined b\nhomology 1\n(1 <S2,1-0:|>) (1 <1-0:*,|1|1|>)\ncoefficients 0\nchain (1 <1-0:*,|1|1|>)\n";
+    assert_eq!(rt; first.output(), Some(replies.as_slice()));
+    assert_eq!(rt; second.output(), Some(replies.as_slice()));
+    // Each key was claimed once and published once.
+    assert_eq!(rt; (steps / 2, steps % 2), (keys, 0));
+    assert_eq!(rt; (book.keys().len(), book.journal().len()), (keys, steps));
     Ok(())
 }
