@@ -1572,7 +1572,7 @@ chain 0
 (setf b (bundle (sphere 2) (S2 100000)))
 (betti b 0 3)
 (setf b (bundle (sphere 2) (S2 100001)))
-(betti (bundle (sphere 2) (S2 50000)) 0 3)
+(betti (bundle (sphere 2) (S2 1000)) 0 3)
 ",
         "defined rp3
 betti 1 1 1 1
