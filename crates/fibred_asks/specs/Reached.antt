@@ -5,7 +5,7 @@
 -- dimension of a row, at most 16, and a space of depth at most 8 has at most 128 of these (Rubio and Sergeraert, Constructive Homological
 -- Algebra and Applications, on reductions).
 --
---   H of K(Z,1) at |3| has the degree 2, and its lists |1|1| and |2|1| the reaches 2 and 3
+--   H of K(Z,1) at |3| has the degree 2, and its lists |1|1| and |1|2| the reaches 2 and 3
 use Rattle.std.specs.Prelude.{◌≡◌, ℕ, suc, None}
 use Rattle.fp_field.specs.declared.prime.Prime.{Prime}
 use Rattle.fp_field.specs.Field.{number}
