@@ -271,10 +271,10 @@ fn a_second_session_adds_no_step(rt: HostRuntime) -> Result<(), Fail> {
     let (keys, steps) = (book.keys().len(), book.journal().len());
     let second = ask_for_the_bundle(alloc, &mut book)?;
     // The small differential is 0 at S2 and |, so that G there is listed; F at the cell is 0, and H there is printed.
-    let replies =
+    let replies: &[u8] =
         b"defined b\nhomology 1\n(1 <S2,1-0:|>) (1 <1-0:*,|1|1|>)\ncoefficients 0\nchain (1 <1-0:*,|1|1|>)\n";
-    assert_eq!(rt; first.output(), Some(replies.as_slice()));
-    assert_eq!(rt; second.output(), Some(replies.as_slice()));
+    assert_eq!(rt; first.output(), Some(replies));
+    assert_eq!(rt; second.output(), Some(replies));
     // Each key was claimed once and published once.
     assert_eq!(rt; (steps / 2, steps % 2), (keys, 0));
     assert_eq!(rt; (book.keys().len(), book.journal().len()), (keys, steps));
