@@ -6,6 +6,7 @@ pub mod Entries
 pub mod Behind
 pub mod Related
 pub mod Turning
+pub mod TableRank
 pub mod TableRows
 pub mod TableSums
 pub mod Tails

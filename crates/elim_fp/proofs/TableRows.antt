@@ -1,5 +1,5 @@
 -- Tables of rows by leading place: a row that is lowered by them, and a row more.
-use Rattle.std.proofs.Common.{◌≡◌, ◌⊎◌, inl, inr, ◌↔◌, ℕ, zero, suc, ◌+◌, ◌*◌, ◌-◌, ◌%◌, ◌<◌, ◌≤◌, true, List, [], ◌∷◌, ◌++◌, All, length, take, set, get_or, refl, sym, ◌∙◌, ap, subst, arith}
+use Rattle.std.proofs.Common.{◌≡◌, ◌⊎◌, inl, inr, ◌↔◌, ℕ, zero, suc, ◌+◌, ◌*◌, ◌-◌, ◌%◌, ◌<◌, ◌≤◌, true, List, [], ◌∷◌, ◌++◌, All, length, drop, set, get_or, refl, sym, ◌∙◌, ap, subst, arith}
 use Rattle.std.proofs.Math.Nat.{mod-lt, mod-eq_of_lt, zero-mod}
 use Rattle.std.proofs.lemmas.Bool.{cases_lt}
 use Rattle.std.specs.List.{AllByRecursion as Each}
@@ -9,15 +9,15 @@ use Rattle.echelons.specs.Echelon.{Vector, IsVector, at_place, zeros, vector_plu
 use Rattle.echelons.proofs.Vectors.{Each-weaker, vectors-wide, below-at, at-multiple, place-multiple, place-zeros, length-multiple, plus-vector, zeros-vector, multiple-vector, same-vector}
 use Rattle.echelons.proofs.Leads.{before-lead, lead-is, lead-within, lead-zeros, lead-positive, zeros-from_lead}
 use Rattle.echelons.proofs.Lists.{Among, each-among, Each-from}
-use Rattle.echelons.proofs.Spans.{span-subspace, combined-zeros}
-use Rattle.echelons.proofs.Members.{member-span, same-span, span-kept, span-more}
+use Rattle.echelons.proofs.Spans.{span-subspace, span-combination, combination-span, combined-zeros}
+use Rattle.echelons.proofs.Members.{member-span, combination-chain, same-span, span-kept}
 use Rattle.echelons.proofs.Steps.{cleared, cleared-vector, cleared-lead, cleared-keep, cleared-back}
 use Rattle.fp_field.specs.declared.prime.Prime.{Prime}
 use Rattle.fp_field.specs.Field.{number}
 use Rattle.fp_field.proofs.Primes.{number_pos, number_above_one}
 use Rattle.std.proofs.lemmas.List.{map-set, length-set}
 use Rattle.std.proofs.lemmas.List.Elements.{All-get_or, All-set, recursion_from_All}
-use Rattle.std.proofs.Math.Seq.{take-suc}
+use Rattle.std.proofs.Math.Seq.{drop-cons}
 use Rattle.elim_fp.specs.Rows.{DenseRow, vectors_of, IsRow}
 use Rattle.elim_fp.specs.Tables.{IsPlaced, Placed, IsTable}
 use Rattle.elim_fp.proofs.Left.{length-vectors, row-values}
@@ -333,23 +333,47 @@ table-start q w table e h g =
       placed (suc k) vs z.1,
     )
 
--- one row more, of the rows that the table spans
-pub table-next : (q : Prime) (w : ℕ) (xs old new : List DenseRow) (i : ℕ) (x : DenseRow) → All (IsRow q w) xs → i < length xs → x ≡ get_or xs i x → IsTable q w old
-    → ((u : Vector) → IsCombination (number q) w (vectors_of old) u ↔ IsCombination (number q) w (take i (vectors_of xs)) u)
+-- ---- one vector more, before two lists with one span
+
+module _ (p w : ℕ) (pos : 0 < p) (v : Vector) (g : IsVector p w v) where
+  within-before : (rows vs : List Vector) → Each (IsVector p w) rows → Each (IsVector p w) vs → ((x : Vector) → IsCombination p w rows x → IsCombination p w vs x)
+      → Each (λ r. in_span p w (v ∷ vs) r ≡ true) (v ∷ rows)
+  within-before rows vs h k into = (
+    member-span p w pos (v ∷ vs) v (g, k) (inl refl),
+    Each-from (λ r. in_span p w (v ∷ vs) r ≡ true) rows (λ r m. combination-span p w (v ∷ vs) r
+        (combination-chain p w pos vs (v ∷ vs) r k (g, k) (Each-from (λ u. in_span p w (v ∷ vs) u ≡ true) vs (λ u n. member-span p w pos (v ∷ vs) u (g, k) (inr n)))
+        (into r (span-combination p w rows r (member-span p w pos rows r h m))))),
+  )
+
+  span-before : (rows vs : List Vector) → Each (IsVector p w) rows → Each (IsVector p w) vs → ((x : Vector) → IsCombination p w rows x ↔ IsCombination p w vs x)
+      → (x : Vector) → IsCombination p w (v ∷ rows) x ↔ IsCombination p w (v ∷ vs) x
+  span-before rows vs h k same = same-span p w pos (v ∷ rows) (v ∷ vs) (g, h) (g, k) (within-before rows vs h k (λ x. (same x).0)) (within-before vs rows k h (λ x. (same x).1))
+
+-- a row at a place of a list of rows
+pub item-row : (q : Prime) (w : ℕ) (xs : List DenseRow) (i : ℕ) (x : DenseRow) → All (IsRow q w) xs → i < length xs → x ≡ get_or xs i x → IsRow q w x
+item-row q w xs i x all l e = subst (IsRow q w) (sym e) (All-get_or (IsRow q w) xs i x l all)
+
+-- one row more, the one before those that the table spans
+pub table-before : (q : Prime) (w : ℕ) (xs old new : List DenseRow) (i : ℕ) (x : DenseRow) → All (IsRow q w) xs → i < length xs → x ≡ get_or xs i x → IsTable q w old
+    → ((u : Vector) → IsCombination (number q) w (vectors_of old) u ↔ IsCombination (number q) w (drop (suc i) (vectors_of xs)) u)
     → ((u : Vector) → IsCombination (number q) w (vectors_of new) u ↔ IsCombination (number q) w (x.values ∷ vectors_of old) u)
-    → (u : Vector) → IsCombination (number q) w (vectors_of new) u ↔ IsCombination (number q) w (take (suc i) (vectors_of xs)) u
-table-next q w xs old new i x all l e h same step u =
+    → (u : Vector) → IsCombination (number q) w (vectors_of new) u ↔ IsCombination (number q) w (drop i (vectors_of xs)) u
+table-before q w xs old new i x all l e h same step u =
     let rows = placed-vectors (number q) w 0 (vectors_of old) h.placed in
-    let item : IsRow q w x = subst (IsRow q w) (sym e) (All-get_or (IsRow q w) xs i x l all) in
-    let more = span-more (number q) w (number_pos q) (vectors_of old) (take i (vectors_of xs)) x.values rows (taken i xs (recursion_from_All (IsRow q w) xs all)) item.vector same u in
-    let next : take (suc i) (vectors_of xs) ≡ take i (vectors_of xs) ++ x.values ∷ [] =
-    take-suc (vectors_of xs) i [] (subst (λ n. i < n) (sym (length-vectors xs)) l) ∙ ap (λ v. take i (vectors_of xs) ++ v ∷ []) (sym (row-values xs i x l e)) in
+    let item = item-row q w xs i x all l e in
+    let more = span-before (number q) w (number_pos q) x.values item.vector (vectors_of old) (drop (suc i) (vectors_of xs)) rows (left (suc i) xs (recursion_from_All (IsRow q w) xs all)) same u in
+    let next : drop i (vectors_of xs) ≡ x.values ∷ drop (suc i) (vectors_of xs) =
+    drop-cons (vectors_of xs) i [] (subst (λ n. i < n) (sym (length-vectors xs)) l) ∙ ap (λ v. v ∷ drop (suc i) (vectors_of xs)) (sym (row-values xs i x l e)) in
     subst (λ ys. IsCombination (number q) w (vectors_of new) u ↔ IsCombination (number q) w ys u) (sym next) (λ c. more.0 ((step u).0 c), λ c. (step u).1 (more.1 c))
   where
-    taken : (k : ℕ) (ys : List DenseRow) → Each (IsRow q w) ys → Each (IsVector (number q) w) (take k (vectors_of ys))
-    taken zero ys z = tt
-    taken (suc k) [] z = tt
-    taken (suc k) (y ∷ ys) z = (z.0.vector, taken k ys z.1)
+    left : (k : ℕ) (ys : List DenseRow) → Each (IsRow q w) ys → Each (IsVector (number q) w) (drop k (vectors_of ys))
+    left k [] z = none k
+      where
+        none : (n : ℕ) → Each (IsVector (number q) w) (drop n [])
+        none zero = tt
+        none (suc n) = tt
+    left zero (y ∷ ys) z = (z.0.vector, left zero ys z.1)
+    left (suc k) (y ∷ ys) z = left k ys z.1
 
 -- a row that a multiple of a vector is added to
 pub taken-row : (q : Prime) (w a : ℕ) (rest new : DenseRow) (s : Vector) → IsRow q w rest → IsVector (number q) w s → new.prime ≡ rest.prime

@@ -8,6 +8,7 @@ ghost use Rattle.elim_fp.specs.Solving.{IsSolution, IsFault};
 use crate::eliminate::{left_of, reduce_rows};
 use crate::matrix::{Echelon, Matrix, basis_of};
 use crate::rows::{FpRow, FpRowList, row_of};
+use crate::tables::{nonzero_count, table_of};
 use std::alloc::{AllocError, Global};
 use thiserror::Error;
 
@@ -30,6 +31,16 @@ pub fn echelon(alloc: Global, m: &Matrix) -> Result<Echelon, AllocError>
 {
     let rows = reduce_rows(alloc, m.prime(), m.width() as usize, m.rows().as_slice())?;
     Ok(basis_of(m.prime(), m.width(), FpRowList::from_rows(rows)))
+}
+
+/// The rank of a matrix: how many rows each basis of the span of its rows has.
+pub fn rank(alloc: Global, m: &Matrix) -> Result<usize, AllocError>
+    ensures { IfOk result (λ n. n ≡ length (reduced_basis (number m.now.prime) m.now.width (in_span (number m.now.prime) m.now.width m.now.rows))) }
+{
+    let rows = m.rows();
+    let width = m.width() as usize;
+    let table = table_of(alloc, m.prime(), width, rows.as_slice())?;
+    Ok(nonzero_count(&table, width))
 }
 
 /// The coefficients of a row over the basis, which are its entries at the leading places.

@@ -11,7 +11,7 @@ mod rows;
 mod tables;
 mod transposes;
 
-pub use bases::{SolveFault, echelon, leading_entries, remainder, solve};
+pub use bases::{SolveFault, echelon, leading_entries, rank, remainder, solve};
 pub use complements::complement;
 pub use kernels::{kernel, relations};
 pub use matrix::{Echelon, Matrix, matrix_of};

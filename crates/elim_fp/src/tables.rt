@@ -49,7 +49,8 @@ fn with_row(table: Vec<FpRow>, p: Prime, row: &FpRow) -> Result<Vec<FpRow>, Allo
     Ok(table)
 }
 
-/// The table of rows with the span of these rows.
+/// The table of rows with the span of these rows. The last row comes first: the rows of a differential rise
+/// with their cells, and from the last one on fewer multiples are taken away from each.
 pub fn table_of(
     alloc: Global,
     p: Prime,
@@ -61,8 +62,10 @@ pub fn table_of(
     ensures span { IfOk result (λ t. (x : Vector) → IsCombination (number p) width (vectors_of t.items) x ↔ IsCombination (number p) width (vectors_of rows.now) x) }
 {
     let mut table = zero_rows(alloc, p, width, width)?;
-    for row in rows {
-        table = with_row(table, p, row)?;
+    let mut left = rows.len();
+    while left > 0 {
+        left -= 1;
+        table = with_row(table, p, &rows[left])?;
     }
     Ok(table)
 }
@@ -114,4 +117,17 @@ pub fn nonzero_rows(alloc: Global, table: &[FpRow], width: usize) -> Result<Vec<
         }
     }
     Ok(rows)
+}
+
+/// How many rows of a table are not 0.
+pub fn nonzero_count(table: &[FpRow], width: usize) -> usize
+    ensures { result ≡ length (leading_rows width table.now) }
+{
+    let mut count = 0;
+    for row in table {
+        if row.lead() < width {
+            count += 1;
+        }
+    }
+    count
 }

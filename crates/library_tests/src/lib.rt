@@ -8,19 +8,11 @@ pub use tables::point;
 #[cfg(test)]
 mod allowed_tests;
 #[cfg(test)]
-mod book_tests;
-#[cfg(test)]
 mod cell_tests;
 #[cfg(test)]
 mod chain_tests;
 #[cfg(test)]
-mod engine_tests;
-#[cfg(test)]
-mod reading_tests;
-#[cfg(test)]
 mod reduction_tests;
-#[cfg(test)]
-mod reply_tests;
 #[cfg(test)]
 mod row_tests;
 #[cfg(test)]

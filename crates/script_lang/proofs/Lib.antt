@@ -24,6 +24,4 @@ pub mod ResolvePairs
 pub mod ResolveLimits
 pub mod ResolveTerms
 pub mod ResolveSpheres
-pub mod ResolveCircle
-pub mod ResolveTwoSphere
 pub mod Worked

@@ -9,11 +9,7 @@ mod forms;
 mod laws;
 mod lines;
 mod named;
-#[cfg(test)]
-mod pair_tests;
 mod reader;
-#[cfg(test)]
-mod resolve_tests;
 mod resolving;
 mod scan;
 mod simplices;

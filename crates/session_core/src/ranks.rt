@@ -10,8 +10,9 @@ ghost use Rattle.homology_rules.specs.CycleVectors.{small_chains, AreCovered};
 ghost use Rattle.session_core.specs.Dimensions.{rank_over, nullity_over};
 
 use chain_core::Chain;
+use elim_fp::{FpRowList, matrix_of, rank as rank_of};
 use fp_field::Prime;
-use homology_rules::{cells_in, small_chain, span_basis};
+use homology_rules::{cells_in, coordinate_rows, small_chain};
 use oracle_iface::CellValue;
 use seqs::Arc;
 use std::alloc::{AllocError, Global};
@@ -31,8 +32,8 @@ pub(crate) fn rank(
     if cells.len() > u32::MAX as usize {
         return Err(AllocError);
     }
-    let span = span_basis(alloc, p, cells, chains)?;
-    Ok(span.rows().len())
+    let rows = FpRowList::from_rows(coordinate_rows(alloc, p, cells, chains)?);
+    rank_of(alloc, &matrix_of(p, cells.len() as u32, rows))
 }
 
 /// How many combinations of the small chains that cells of the table hold are 0: the length of a basis of these.

@@ -10,6 +10,3 @@ pub mod UpFaces
 pub mod SuspensionFaces
 pub mod CellSteps
 pub mod Degeneracies
-pub mod SphereCells
-pub mod IntegerCells
-pub mod WorkedPairs

@@ -13,8 +13,3 @@ mod term_faces;
 pub use boundaries::boundary;
 pub use laws::quoted_chains;
 pub use term_faces::{TermFaces, faces_of};
-
-#[cfg(test)]
-mod pair_tests;
-#[cfg(test)]
-mod tests;

@@ -1,3 +1,1 @@
-pub mod IntegerPairs
 pub mod OneFace
-pub mod TorusCells

@@ -4,10 +4,3 @@
 mod pairs;
 
 pub use pairs::SpacePair;
-
-#[cfg(test)]
-mod integer_tests;
-#[cfg(test)]
-mod pair_tests;
-#[cfg(test)]
-mod tests;

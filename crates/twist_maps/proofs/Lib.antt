@@ -1,3 +1,2 @@
 pub mod Triangles
 pub mod Opens
-pub mod SphereCells

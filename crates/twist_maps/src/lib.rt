@@ -4,8 +4,6 @@
 
 mod checks;
 mod laws;
-#[cfg(test)]
-mod tests;
 mod twists;
 mod values;
 

@@ -1,0 +1,170 @@
+ghost use Rattle.std.specs.Prelude.{◌≡◌, ℕ, IfOk};
+ghost use Rattle.oracle_iface.specs.declared.keys.Key.{Key};
+ghost use Rattle.oracle_iface.specs.declared.memo.Claim.TheVariants.{Granted};
+ghost use Rattle.memo_book.specs.Worked.{sphere_key};
+
+use crate::keys::key_in;
+use core_board::Event;
+use memo_book::{Book, new_book};
+use oracle_iface::{Body, CellValue, Claim, Key, Memo, Op, Outcome, Place, Ticket};
+use seqs::{Arc, new_seq};
+use std::alloc::{AllocError, Global};
+use std::process::Abort;
+use term_lang::Term;
+
+// The cell of the key of degree 5, where there is no small cell.
+fn empty_cell(alloc: Global) -> Result<Arc<CellValue>, AllocError>
+    ensures { IfOk result (λ v. v.key ≡ sphere_key 5) }
+{
+    let key = key_in(alloc, 5)?;
+    let outcome = Outcome::Value(Body::Cells(new_seq(alloc)));
+    Arc::new(alloc, CellValue { key, outcome })
+}
+
+fn ticket_of(rt: &impl Abort, claim: Claim) -> Ticket
+    ensures { claim ≡ Granted result }
+{
+    match claim {
+        Claim::Granted(ticket) => ticket,
+        Claim::Present(_) => panic!(rt; "the key is published"),
+        Claim::Busy(_) => panic!(rt; "the key is held"),
+        Claim::Full(_) => panic!(rt; "the book is full"),
+    }
+}
+
+#[derive(Clone, Copy, Debug, PartialEq, Eq)]
+enum Seen {
+    Granted,
+    Present,
+    Busy(u32),
+    Full(u32),
+}
+
+// How a book answers, and a ticket is given back.
+fn spent(book: &mut Book, claim: Claim) -> Seen {
+    match claim {
+        Claim::Granted(ticket) => {
+            book.release(ticket);
+            Seen::Granted
+        }
+        Claim::Present(_) => Seen::Present,
+        Claim::Busy(seat) => Seen::Busy(seat),
+        Claim::Full(keys) => Seen::Full(keys),
+    }
+}
+
+// How a book answers a claim, if memory is found.
+fn asked(rt: &impl Abort, book: &mut Book, key: &Key, seat: u32) -> Seen {
+    let claim = book.claim(key, seat).expect(rt, "memory");
+    spent(book, claim)
+}
+
+fn taken(rt: &impl Abort, book: &mut Book, key: &Key, seat: u32) -> Ticket
+    ensures { result.key ≡ key.now }
+{
+    let claim = book.claim(key, seat).expect(rt, "memory");
+    ticket_of(rt, claim)
+}
+
+fn is_found(rt: &impl Abort, book: &Book, key: &Key) -> bool {
+    book.look(key).expect(rt, "memory").is_some()
+}
+
+fn some_key(rt: &impl Abort, alloc: Global, degree: u32) -> Key
+    ensures { result ≡ sphere_key degree }
+{
+    key_in(alloc, degree).expect(rt, "memory")
+}
+
+fn some_cell(rt: &impl Abort, alloc: Global) -> Arc<CellValue>
+    ensures { result.key ≡ sphere_key 5 }
+{
+    empty_cell(alloc).expect(rt, "memory")
+}
+
+#[test]
+fn a_key_that_is_published(rt: HostRuntime) {
+    let key = some_key(&rt, rt.alloc(), 5);
+    let mut book = new_book(rt.alloc());
+    let ticket = taken(&rt, &mut book, &key, 0);
+    let busy = asked(&rt, &mut book, &key, 1);
+    let found = is_found(&rt, &book, &key);
+    book.publish(ticket, some_cell(&rt, rt.alloc()));
+    assert_eq!(rt; busy, Seen::Busy(0));
+    assert_eq!(rt; found, false);
+    assert_eq!(rt; asked(&rt, &mut book, &key, 1), Seen::Present);
+    assert_eq!(rt; is_found(&rt, &book, &key), true);
+}
+
+#[test]
+fn a_key_that_is_given_back(rt: HostRuntime) {
+    let key = some_key(&rt, rt.alloc(), 3);
+    let mut book = new_book(rt.alloc());
+    let ticket = taken(&rt, &mut book, &key, 0);
+    book.release(ticket);
+    let ticket = taken(&rt, &mut book, &key, 1);
+    let busy = asked(&rt, &mut book, &key, 1);
+    book.release(ticket);
+    assert_eq!(rt; busy, Seen::Busy(1));
+    let events = [
+        Event::Claim { seat: 0, key: 0 },
+        Event::Release { seat: 0, key: 0 },
+        Event::Claim { seat: 1, key: 0 },
+        Event::Release { seat: 1, key: 0 },
+    ];
+    assert_eq!(rt; book.journal(), events.as_slice());
+}
+
+#[test]
+fn keys_in_order(rt: HostRuntime) {
+    let high = some_key(&rt, rt.alloc(), 3);
+    let low = some_key(&rt, rt.alloc(), 2);
+    let mut book = new_book(rt.alloc());
+    assert_eq!(rt; asked(&rt, &mut book, &high, 7), Seen::Granted);
+    assert_eq!(rt; asked(&rt, &mut book, &low, 7), Seen::Granted);
+    assert_eq!(rt; asked(&rt, &mut book, &high, 7), Seen::Granted);
+    assert_eq!(rt; book.keys().len(), 2);
+    let is_first = match book.keys().first() {
+        Some(key) => *key == high,
+        None => false,
+    };
+    assert_eq!(rt; is_first, true);
+}
+
+// A key through the bound: it is taken and given back.
+fn tried<M: Memo>(memo: &mut M, key: &Key) -> Result<bool, AllocError> {
+    match memo.claim(key)? {
+        Claim::Granted(ticket) => {
+            memo.release(ticket);
+            Ok(true)
+        }
+        Claim::Present(_) => Ok(false),
+        Claim::Busy(_) => Ok(false),
+        Claim::Full(_) => Ok(false),
+    }
+}
+
+// A key through the bound: it is published, where it can be taken, and then looked up.
+fn shared<M: Memo>(memo: &mut M, key: &Key, cell: Arc<CellValue>) -> Result<bool, AllocError>
+    requires { cell.key ≡ key.now }
+{
+    match memo.claim(key)? {
+        Claim::Granted(ticket) => memo.publish(ticket, cell),
+        Claim::Present(_) => {}
+        Claim::Busy(_) => {}
+        Claim::Full(_) => {}
+    }
+    Ok(memo.look(key)?.is_some())
+}
+
+#[test]
+fn a_book_as_a_memo(rt: HostRuntime) {
+    let key = some_key(&rt, rt.alloc(), 5);
+    let mut book = new_book(rt.alloc());
+    let first = tried(&mut book, &key).expect(&rt, "memory");
+    let found = shared(&mut book, &key, some_cell(&rt, rt.alloc())).expect(&rt, "memory");
+    let last = tried(&mut book, &key).expect(&rt, "memory");
+    assert_eq!(rt; first, true);
+    assert_eq!(rt; found, true);
+    assert_eq!(rt; last, false);
+}

@@ -1,0 +1,21 @@
+// Keys that the tests share.
+ghost use Rattle.std.specs.Prelude.{◌≡◌, IfOk};
+ghost use Rattle.memo_book.specs.Worked.{sphere_key};
+
+use fp_field::Prime;
+use oracle_iface::{Key, Op, Place};
+use seqs::Arc;
+use std::alloc::{AllocError, Global};
+use term_lang::Term;
+
+/// The key of the small cells of a degree of the sphere of dimension 2, over F_3.
+pub fn key_in(alloc: Global, degree: u32) -> Result<Key, AllocError>
+    ensures { IfOk result (λ k. k ≡ sphere_key degree) }
+{
+    Ok(Key {
+        op: Op::Basis,
+        prime: Prime::Three,
+        place: Place::Degree(degree),
+        term: Arc::new(alloc, Term::Sphere(2))?,
+    })
+}

@@ -1,0 +1,2 @@
+pub mod CircleRows
+pub mod TwoSphereRows

@@ -1,5 +1,0 @@
-use Rattle.term_lang.specs.declared.terms.Term.TheVariants.{Product}
-use Rattle.space_faces.proofs.pair_tests.torus.Goals as goal
-
-pub returns : goal.returns
-returns c = λ i. Product (c.in_ok-left.ensures i) (c.in_ok-right.ensures i)

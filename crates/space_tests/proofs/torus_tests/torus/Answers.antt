@@ -1,0 +1,12 @@
+use Rattle.std.proofs.Common.{sym, subst, arith}
+use Rattle.spaces.specs.Allowed.{IsAllowed}
+use Rattle.term_lang.specs.SpaceOf.{space_of}
+use Rattle.normal_forms.specs.Built.{IsBuilt}
+use Rattle.space_tests.proofs.SphereCells.{sphere-built, sphere-allowed}
+use Rattle.space_tests.proofs.torus_tests.torus.Goals as goal
+
+pub faces_of-requires-clause-allowed : goal.faces_of-requires-clause-allowed
+faces_of-requires-clause-allowed c = subst (λ t. IsAllowed (space_of t)) (sym c.requires.circle) (sphere-allowed 1 (omega arith) (omega arith))
+
+pub faces_of-requires-clause-built : goal.faces_of-requires-clause-built
+faces_of-requires-clause-built c = subst (λ t. IsBuilt (space_of t)) (sym c.requires.circle) (sphere-built 1)
