@@ -12,6 +12,10 @@ mod cell_tests;
 #[cfg(test)]
 mod chain_tests;
 #[cfg(test)]
+mod circle_bundle;
+#[cfg(test)]
+mod perturbation_tests;
+#[cfg(test)]
 mod reduction_tests;
 #[cfg(test)]
 mod row_tests;
