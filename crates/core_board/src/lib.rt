@@ -12,5 +12,3 @@ pub use calls::{Stepped, replay, step};
 pub use events::{Event, EventList};
 pub use laws::{interleavings, legal_lists, one_board};
 
-#[cfg(test)]
-mod tests;

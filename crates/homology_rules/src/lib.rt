@@ -31,5 +31,3 @@ pub use typed::{
 };
 pub use vectors::terms_of_vector;
 
-#[cfg(test)]
-mod tests;

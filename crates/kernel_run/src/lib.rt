@@ -23,9 +23,3 @@ pub use kernel::run_kernel;
 pub use report::{End, SessionReport};
 pub use session::run_session;
 
-#[cfg(test)]
-mod batch_tests;
-#[cfg(test)]
-mod examples;
-#[cfg(test)]
-mod tests;

@@ -4,8 +4,6 @@
 mod groups;
 mod lists;
 mod simplices;
-#[cfg(test)]
-mod tests;
 
 pub use groups::{ints_inv, ints_mul};
 pub use lists::{ints_face, ints_norm};

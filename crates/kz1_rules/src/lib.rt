@@ -14,5 +14,3 @@ pub use direct::integers_value;
 pub use laws::shown_laws;
 pub use rules::rule;
 
-#[cfg(test)]
-mod tests;

@@ -3,8 +3,6 @@
 
 mod events;
 mod laws;
-#[cfg(test)]
-mod tests;
 mod word;
 
 pub use events::{event_of, matched, pairs};

@@ -11,5 +11,3 @@ pub use delta::{MapDelta, Perturb};
 pub use laws::perturbed_meets;
 pub use perturbed::{perturbed_d, perturbed_f, perturbed_g, perturbed_h};
 
-#[cfg(test)]
-mod tests;

@@ -13,5 +13,3 @@ pub use memory::{MemPort, mem_port};
 pub use port::{Port, PortBox, PortFault};
 pub use words::{Status, WordList};
 
-#[cfg(test)]
-mod tests;

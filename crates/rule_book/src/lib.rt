@@ -15,5 +15,3 @@ pub use laws::needs_laws;
 pub use outcomes::{direct_outcome, within_limits};
 pub use rules::Rules;
 
-#[cfg(test)]
-mod tests;

@@ -6,8 +6,6 @@ mod arc;
 mod boxed;
 mod comparisons;
 mod seq;
-#[cfg(test)]
-mod tests;
 
 pub use arc::Arc;
 pub use boxed::Box;

@@ -10,8 +10,6 @@ mod answerer;
 mod asker;
 mod betti;
 mod boundaries;
-#[cfg(test)]
-mod bundle_tests;
 mod chains;
 mod counts;
 mod degrees;
@@ -29,8 +27,6 @@ mod lines;
 mod names;
 mod order;
 mod pairs;
-#[cfg(test)]
-mod part_tests;
 mod parts;
 mod parts_of_cycles;
 mod posed;
@@ -43,8 +39,6 @@ mod session_names;
 mod settings;
 mod spots;
 mod stops;
-#[cfg(test)]
-mod tests;
 mod thrifty;
 mod whole;
 mod without;

@@ -13,5 +13,3 @@ mod ups;
 pub use laws::{rule_laws, shown_values};
 pub use rules::rule;
 
-#[cfg(test)]
-mod tests;

@@ -5,8 +5,6 @@ mod laws;
 mod products;
 mod reduction;
 mod tensors;
-#[cfg(test)]
-mod tests;
 
 pub use laws::tensor_meets;
 pub use products::product_of;

@@ -17,5 +17,3 @@ pub use counted::Counted;
 pub use list::{CloseRefused, CloseRoom, PassList};
 pub use pass::{Pass, Turnstile};
 
-#[cfg(test)]
-mod tests;

@@ -1,9 +1,0 @@
-use denote.Param.Send.{sendable}
-use Rattle.turnstile.proofs.Crossing.{pass_sync, list_sync}
-use Rattle.turnstile.proofs.tests.all_cross.Goals as goal
-
-pub crosses-requires-2-sync-T : goal.crosses-requires-2-sync-T
-crosses-requires-2-sync-T g c κs within = let send = c.type_bounds.send-B in search (sendable, list_sync)
-
-pub crosses-requires-in-Some-sync-T : goal.crosses-requires-in-Some-sync-T
-crosses-requires-in-Some-sync-T g c κs within = let send = c.type_bounds.send-B in search (sendable, pass_sync)
