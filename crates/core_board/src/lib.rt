@@ -11,4 +11,3 @@ pub use board::{Board, State};
 pub use calls::{Stepped, replay, step};
 pub use events::{Event, EventList};
 pub use laws::{interleavings, legal_lists, one_board};
-

@@ -30,4 +30,3 @@ pub use typed::{
     quote_laws, quoted_sum_laws, shown_laws, typed_cycles_laws, typed_key_laws, typed_sum_laws,
 };
 pub use vectors::terms_of_vector;
-

@@ -22,4 +22,3 @@ mod write;
 pub use kernel::run_kernel;
 pub use report::{End, SessionReport};
 pub use session::run_session;
-

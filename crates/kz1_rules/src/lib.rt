@@ -13,4 +13,3 @@ mod rules;
 pub use direct::integers_value;
 pub use laws::shown_laws;
 pub use rules::rule;
-

@@ -12,4 +12,3 @@ pub use file::{FilePort, file_port};
 pub use memory::{MemPort, mem_port};
 pub use port::{Port, PortBox, PortFault};
 pub use words::{Status, WordList};
-

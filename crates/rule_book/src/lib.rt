@@ -14,4 +14,3 @@ pub use direct::direct_value;
 pub use laws::needs_laws;
 pub use outcomes::{direct_outcome, within_limits};
 pub use rules::Rules;
-

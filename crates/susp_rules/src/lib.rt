@@ -12,4 +12,3 @@ mod ups;
 
 pub use laws::{rule_laws, shown_values};
 pub use rules::rule;
-

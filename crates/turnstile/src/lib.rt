@@ -16,4 +16,3 @@ pub use calls::new_turnstile;
 pub use counted::Counted;
 pub use list::{CloseRefused, CloseRoom, PassList};
 pub use pass::{Pass, Turnstile};
-
