@@ -1,0 +1,9 @@
+pub mod Differences
+pub mod CellBoundaries
+pub mod UnfoxPairs
+pub mod FoxWords
+pub mod FoxComplex
+pub mod LetterLowers
+pub mod LateLetters
+pub mod LoopSpaces
+pub mod FoxReduction

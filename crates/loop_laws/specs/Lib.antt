@@ -1,0 +1,2 @@
+pub mod FoxComplexes
+pub mod FoxLaws
