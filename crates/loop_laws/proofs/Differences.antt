@@ -1,7 +1,7 @@
 -- Sums of differences in an abelian group of functionals.
-use Rattle.std.proofs.Common.{◌≡◌, sym, ◌∙◌, ap}
+use Rattle.std.proofs.Common.{◌≡◌, ℕ, sym, ◌∙◌, ap}
 use Rattle.ez_laws.proofs.Functionals.{Coefficients, Ch}
-use Rattle.ez_laws.proofs.ChainLaws.{add, neg, assoc, comm, unit, unit-l, inverse, neg-add, neg-neg}
+use Rattle.ez_laws.proofs.ChainLaws.{add, neg, tot, sg, assoc, comm, unit, unit-l, inverse, neg-add, neg-neg, tot-add, sg-tot}
 
 module _ (S : Coefficients) {K : Type 0} where
   -- (a - b) + (b - c) = a - c
@@ -29,3 +29,8 @@ module _ (S : Coefficients) {K : Type 0} where
   -- (a + b) - b = a
   pub less-plus : (a b : Ch S K) → add S (add S a b) (neg S b) ≡ a
   less-plus a b = assoc S a b (neg S b) ∙ ap (add S a) (inverse S b) ∙ unit S a
+
+  -- the difference of two sums
+  pub tot-less : (n : ℕ) (f g : ℕ → Ch S K) → add S (tot S n f) (neg S (tot S n g)) ≡ tot S n (λ i. add S (f i) (neg S (g i)))
+  unfolding sg
+  tot-less n f g = ap (add S (tot S n f)) (sg-tot S 1 n g) ∙ sym (tot-add S n f (λ i. neg S (g i)))

@@ -102,7 +102,7 @@ module _ (p : ℕ) (pos : 0 < p) {K : Type 0} (A : Ordered K) (base : IsRight A)
   abbrev moved_by : K → Word → Word
   moved_by y g = word_times X (G.face 0 (letter_word X y)) (G.face 0 g)
 
-  moved-in : (n : ℕ) (y : K) (g : Word) → X.In (suc (suc n)) y → G.In (suc n) g → G.In n (moved_by y g)
+  pub moved-in : (n : ℕ) (y : K) (g : Word) → X.In (suc (suc n)) y → G.In (suc n) g → G.In n (moved_by y g)
   moved-in n y g iy ig = UP.moved-in p pos A words base fibre (λ v. letter_word X v) (λ u v. word_times X u v) twisting n y g iy ig
 
   twist-pairs-at : (n : ℕ) (y : K) (g : Word) → IsLetter X (suc n) y → G.In (suc n) g → Each (IsPairOf n) (letter_twist p A words (suc n, y, g))

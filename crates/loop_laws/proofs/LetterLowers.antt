@@ -57,12 +57,12 @@ module _ (p : ℕ) (pos : 0 < p) {K : Type 0} (A : Ordered K) (base : IsRight A)
   Below n s z = Lower p L (IsLetter A.set) words n s z
 
   -- the dimension of a letter counts the places from the second on at which its simplex moves
-  moves-count : (n : ℕ) (x : K) → moves p L (IsLetter A.set) words n x ≡ count n (λ j. has_degeneracy X (suc j) x)
+  pub moves-count : (n : ℕ) (x : K) → moves p L (IsLetter A.set) words n x ≡ count n (λ j. has_degeneracy X (suc j) x)
   moves-count zero x = refl
   moves-count (suc n) x = ap (λ m. m + misses (has_degeneracy X (suc n) x)) (moves-count n x)
 
   -- where d_0 y is no s_0, y moves at its second place
-  second-place : (n : ℕ) (y : K) → X.In (suc (suc n)) y → has_degeneracy X 0 (X.face 0 y) ≡ false → has_degeneracy X 1 y ≡ false
+  pub second-place : (n : ℕ) (y : K) → X.In (suc (suc n)) y → has_degeneracy X 0 (X.face 0 y) ≡ false → has_degeneracy X 1 y ≡ false
   second-place n y iy e = elim (two (has_degeneracy X 1 y)) as (λ v. has_degeneracy X 1 y ≡ false)
       [ inr v ↦ v | inl v ↦ absurd (true≢false (sym (low-has X base.simplicial (suc n) 0 0 y iy (omega arith) (omega arith) v) ∙ e)) ]
 

@@ -5,5 +5,7 @@ pub mod FoxWords
 pub mod FoxComplex
 pub mod LetterLowers
 pub mod LateLetters
+pub mod ByTwo
+pub mod LetterCuts
 pub mod LoopSpaces
 pub mod FoxReduction

@@ -4,9 +4,10 @@ use Rattle.fp_field.specs.Chains.{Terms, extend, Each, coeff}
 use Rattle.fp_field.specs.Reduction.{SameTerms, IsComplex, one}
 use Rattle.spaces.specs.Simplicial.{has_degeneracy, is_degenerate}
 use Rattle.spaces.specs.Spaces.{Space, loops, Plain, set_of}
-use Rattle.spaces.specs.Allowed.{Admits}
+use Rattle.spaces.specs.Allowed.{Admits, HasOneVertex}
 use Rattle.spaces.specs.Orders.{ordered}
 use Rattle.spaces.specs.EilenbergZilber.{pair_order}
+use Rattle.spaces.proofs.SpaceVertices.{one_vertex}
 use Rattle.values.specs.Asks.{Cell}
 use Rattle.values.specs.Twists.{is_letter_pair}
 use Rattle.values.specs.Laws.{cells, cell_d}
@@ -17,10 +18,12 @@ use Rattle.ez_laws.proofs.PairOrders.{same-is, tells-equivalence, pairs-apart}
 use Rattle.ez_laws.proofs.Values.{val, same-val, val-one, val-nil, val-extend}
 use Rattle.ez_laws.proofs.Joined.{same-terms}
 use Rattle.ez_laws.proofs.LetterFaces.{letters-left}
-use Rattle.twist_laws.specs.LeftDegrees.{LowersLeft}
+use Rattle.twist_laws.specs.LeftDegrees.{LowersLeft, IsSeriesOf, transferred, LowersByTwo}
 use Rattle.loop_laws.specs.FoxComplexes.{LetterPair, letters_of, twist_of, letter_pairs, fox_of, unfox_of}
 use Rattle.loop_laws.specs.FoxLaws.{FoxRespectsDegeneracies, FoxCarriesDifferentials}
 use Rattle.loop_laws.proofs.LetterLowers.{letters-lower}
+use Rattle.loop_laws.proofs.LetterCuts.{aw-low}
+use Rattle.loop_laws.proofs.ByTwo.{lowers-by-two}
 use Rattle.loop_laws.proofs.UnfoxPairs as UP
 use Rattle.loop_laws.proofs.FoxWords as FW
 use Rattle.loop_laws.proofs.FoxComplex as FC
@@ -108,6 +111,19 @@ module _ (p : ℕ) (pos : 0 < p) (a : Space) (ad : Admits (loops a)) where
 
   pub letters-lower-left : LowersLeft p (letters_of p a) (IsLetter (set_of a)) (ordered (loops a)) (twist_of p a)
   letters-lower-left = letters-lower p pos (ordered a) base (ordered (loops a)).cmp fibre
+
+  pub only-word : (u v : Plain (loops a)) → (set_of (loops a)).In 0 u → (set_of (loops a)).In 0 v → u ≡ v
+  only-word u v i k =
+      let one : HasOneVertex (set_of (loops a)) = (one_vertex (loops a) ad).1 refl in
+      one.2 u i ∙ sym (one.2 v k)
+
+  pub letters-transfer : (P : LetterPair p a → Terms (LetterPair p a))
+      → IsSeriesOf p (letters_of p a) (IsLetter (set_of a)) (ordered (loops a)) (twist_of p a) P
+      → LowersByTwo p (letters_of p a) (IsLetter (set_of a)) (ordered (loops a))
+      (transferred p (letters_of p a) (IsLetter (set_of a)) (ordered (loops a)) (twist_of p a) P)
+  letters-transfer =
+      lowers-by-two p pos (letters_of p a) (IsLetter (set_of a)) (ordered (loops a)) left fibre (twist_of p a) letters-lower-left
+      (aw-low p pos (ordered a) base (ordered (loops a)).cmp fibre only-word)
 
   -- ---- there is no pair of degree 0, since all edges of the space are degenerate
 

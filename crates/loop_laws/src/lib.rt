@@ -12,4 +12,6 @@ mod letters;
 pub use fox::{
     fox_carries_differentials, fox_is_inverse, fox_respects_degeneracies, words_reduce_to_pairs,
 };
-pub use letters::{letter_pairs_are_a_complex, letter_twist_lowers_left};
+pub use letters::{
+    letter_pairs_are_a_complex, letter_twist_lowers_by_two, letter_twist_lowers_left,
+};
