@@ -1,3 +1,4 @@
+mod Worked
 pub mod Differences
 pub mod CellBoundaries
 pub mod UnfoxPairs
@@ -7,5 +8,6 @@ pub mod LetterLowers
 pub mod LateLetters
 pub mod ByTwo
 pub mod LetterCuts
+pub mod WordDegeneracies
 pub mod LoopSpaces
 pub mod FoxReduction

@@ -1,2 +1,3 @@
 pub mod FoxComplexes
 pub mod FoxLaws
+pub mod LetterPlaces

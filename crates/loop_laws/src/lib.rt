@@ -8,6 +8,7 @@
 
 mod fox;
 mod letters;
+mod words;
 
 pub use fox::{
     fox_carries_differentials, fox_is_inverse, fox_respects_degeneracies, words_reduce_to_pairs,
@@ -15,3 +16,4 @@ pub use fox::{
 pub use letters::{
     letter_pairs_are_a_complex, letter_twist_lowers_by_two, letter_twist_lowers_left,
 };
+pub use words::words_degenerate_by_letters;
