@@ -1,6 +1,6 @@
 -- The transferred difference AW q P EML lowers the left degree by 2 at least, for any twist q that lowers the left dimension and for which
 -- AW q does so by 2: P = 1 - k q P, and in AW q k q P the twist comes twice (Shih 1962).
-use Rattle.std.proofs.Common.{◌≡◌, ℕ, zero, suc, ◌+◌, ◌%◌, ◌<◌, ◌≤◌, [], ◌∷◌, ◌++◌, Bool, true, false, refl, sym, ◌∙◌, ap, subst, arith}
+use Rattle.std.proofs.Common.{◌≡◌, ℕ, zero, suc, ◌+◌, ◌%◌, ◌<◌, ◌≤◌, [], ◌++◌, Bool, true, false, refl, sym, ◌∙◌, ap, subst, arith}
 use Rattle.fp_field.specs.Chains.{Terms, extend, coeff, Each}
 use Rattle.fp_field.specs.Reduction.{Respects, one, after}
 use Rattle.fp_field.proofs.Weights.{Each-extend}

@@ -1,6 +1,6 @@
 -- Fox carries the differential of words to that of pairs with the twist, in degrees of at least 1, and the square of the latter is 0. Both
 -- follow from the laws of unfox, and no twisting identity is used here.
-use Rattle.std.proofs.Common.{◌≡◌, ℕ, zero, suc, ◌-◌, ◌<◌, List, [], ◌∷◌, ◌++◌, Bool, true, false, not, cond, inl, inr, refl, sym, ◌∙◌, ap, subst, arith, true≢false}
+use Rattle.std.proofs.Common.{◌≡◌, ℕ, zero, suc, ◌-◌, ◌<◌, List, [], ◌∷◌, ◌++◌, Bool, true, false, not, cond, inl, inr, refl, sym, ◌∙◌, ap, subst, arith}
 use Rattle.std.proofs.lemmas.Bool.{not-true}
 use Rattle.std.specs.declared.cmp.Ordering.{Ordering}
 use Rattle.fp_field.specs.Chains.{Terms, extend, keep, Each}

@@ -3,7 +3,7 @@ use Rattle.std.proofs.Common.{◌≡◌, ℕ, zero, suc, ◌%◌, ◌<◌, [], �
 use Rattle.fp_field.specs.Chains.{Terms, scale, extend, Each, coeff}
 use Rattle.fp_field.specs.Reduction.{Complex, SameTerms, IsComplex, IsReduction, one}
 use Rattle.spaces.specs.Simplicial.{IsSimplicial}
-use Rattle.spaces.specs.Spaces.{Space, loops, Plain, set_of}
+use Rattle.spaces.specs.Spaces.{Space, loops, set_of}
 use Rattle.spaces.specs.Allowed.{Admits}
 use Rattle.values.specs.Asks.{Cell}
 use Rattle.homology_laws.proofs.CellChains.{cells_of, cells-same, cells-complex}

@@ -1,10 +1,10 @@
 -- Fox's expansion of words of letters (Fox, Free differential calculus I, 1953): fox and unfox respect degenerate words and pairs and are
 -- inverse to each other on cells, and unfox carries the differential of pairs with the twist to that of words.
-use Rattle.std.proofs.Common.{◌≡◌, ℕ, zero, suc, ◌-◌, ◌*◌, ◌<◌, ◌≤◌, List, [], ◌∷◌, ◌++◌, Bool, true, false, not, ◌&&◌, ◌||◌, inl, inr, refl, sym, ◌∙◌, ap, subst, arith, true≢false}
+use Rattle.std.proofs.Common.{◌≡◌, ℕ, zero, suc, ◌-◌, ◌*◌, ◌<◌, ◌≤◌, List, [], ◌∷◌, ◌++◌, Bool, true, false, not, ◌&&◌, inl, inr, refl, sym, ◌∙◌, ap, subst, arith, true≢false}
 use Rattle.std.specs.declared.cmp.Ordering.{Ordering}
 use Rattle.fp_field.specs.Chains.{extend}
 use Rattle.fp_field.specs.Reduction.{one}
-use Rattle.spaces.specs.Simplicial.{Simplicial, IsSimplicial, has_degeneracy, is_degenerate, some_below}
+use Rattle.spaces.specs.Simplicial.{Simplicial, IsSimplicial, has_degeneracy, is_degenerate}
 use Rattle.spaces.specs.Orders.{Ordered}
 use Rattle.spaces.specs.Products.{IsTwisting}
 use Rattle.spaces.specs.LoopGroups.{Letter, before, reduce, cancels, word_times, letter_word, loop_degeneracy, loop_set, InLoop, IsReduced}
@@ -18,7 +18,7 @@ use Rattle.ez_laws.specs.Sides.{IsRight}
 use Rattle.ez_laws.specs.LetterSides.{IsLetter}
 use Rattle.ez_laws.proofs.Matches.{two}
 use Rattle.ez_laws.proofs.Functionals.{Coefficients, Ch}
-use Rattle.ez_laws.proofs.ChainLaws.{o, add, neg, eta, lin, All, assoc, comm, unit, unit-l, inverse, neg-add, neg-neg, neg-o, lin-eta, lin-lin, lin-o, lin-add, lin-neg, lin-on, all-eta, all-o, all-add, all-neg}
+use Rattle.ez_laws.proofs.ChainLaws.{o, add, neg, eta, lin, All, unit, inverse, neg-o, lin-eta, lin-lin, lin-o, lin-add, lin-neg, lin-on, all-eta, all-o, all-add, all-neg}
 use Rattle.ez_laws.proofs.Values.{field, val, val-append, val-one, val-neg, val-nil, val-extend}
 use Rattle.ez_laws.proofs.SimplicialSides.{degeneracies}
 use Rattle.twist_laws.proofs.Supports.{kept_key, kept-true, kept-false, val-keep}

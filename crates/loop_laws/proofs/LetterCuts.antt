@@ -28,7 +28,7 @@ use Rattle.ez_laws.proofs.Values.{field, val, val-one, val-nil, val-extend, lin-
 use Rattle.ez_laws.proofs.PairKeys.{none-below, found-below}
 use Rattle.twist_laws.proofs.Supports.{kept_key, kept-true, kept-false, val-keep}
 use Rattle.twist_laws.proofs.TwistedPairs.{val-difference}
-use Rattle.twist_laws.proofs.Places.{some-so, count, count-least, count-full, low-has, cut_front, front-has}
+use Rattle.twist_laws.proofs.Places.{some-so, count, count-full, low-has, cut_front, front-has}
 use Rattle.twist_laws.proofs.Late.{behind, behind-has}
 use Rattle.loop_laws.proofs.Differences.{tot-less}
 use Rattle.loop_laws.proofs.FoxWords.{words_with}

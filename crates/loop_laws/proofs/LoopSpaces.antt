@@ -1,15 +1,14 @@
 -- The laws of Fox's expansion for the loop group of a space.
-use Rattle.std.proofs.Common.{◌≡◌, ℕ, zero, suc, ◌%◌, ◌<◌, [], ◌∷◌, true, false, refl, sym, ◌∙◌, ap, subst, true≢false}
+use Rattle.std.proofs.Common.{◌≡◌, ℕ, suc, ◌%◌, ◌<◌, [], ◌∷◌, true, false, refl, sym, ◌∙◌, ap, subst, true≢false}
 use Rattle.fp_field.specs.Chains.{Terms, extend, Each, coeff}
 use Rattle.fp_field.specs.Reduction.{SameTerms, IsComplex, one}
-use Rattle.spaces.specs.Simplicial.{has_degeneracy, is_degenerate}
+use Rattle.spaces.specs.Simplicial.{is_degenerate}
 use Rattle.spaces.specs.Spaces.{Space, loops, Plain, set_of}
 use Rattle.spaces.specs.Allowed.{Admits, HasOneVertex}
 use Rattle.spaces.specs.Orders.{ordered}
 use Rattle.spaces.specs.EilenbergZilber.{pair_order}
 use Rattle.spaces.proofs.SpaceVertices.{one_vertex}
 use Rattle.values.specs.Asks.{Cell}
-use Rattle.values.specs.Twists.{is_letter_pair}
 use Rattle.values.specs.Laws.{cells, cell_d}
 use Rattle.ez_laws.specs.Sides.{IsLeft, IsRight}
 use Rattle.ez_laws.specs.LetterSides.{IsLetter}
@@ -24,7 +23,6 @@ use Rattle.loop_laws.specs.FoxLaws.{FoxRespectsDegeneracies, FoxCarriesDifferent
 use Rattle.loop_laws.proofs.LetterLowers.{letters-lower}
 use Rattle.loop_laws.proofs.LetterCuts.{aw-low}
 use Rattle.loop_laws.proofs.ByTwo.{lowers-by-two}
-use Rattle.loop_laws.proofs.UnfoxPairs as UP
 use Rattle.loop_laws.proofs.FoxWords as FW
 use Rattle.loop_laws.proofs.FoxComplex as FC
 

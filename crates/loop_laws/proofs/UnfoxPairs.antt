@@ -15,7 +15,7 @@ use Rattle.ez_laws.specs.Sides.{IsLeft, IsRight}
 use Rattle.ez_laws.specs.LetterSides.{IsLetter}
 use Rattle.ez_laws.proofs.Matches.{two}
 use Rattle.ez_laws.proofs.Functionals.{Coefficients, Ch}
-use Rattle.ez_laws.proofs.ChainLaws.{o, add, neg, eta, lin, sg, tot, All, assoc, comm, unit-l, inverse, neg-add, neg-neg, lin-eta, lin-lin, lin-o, lin-add, lin-neg, lin-sg, lin-tot, lin-on, all-eta, all-add, all-neg, tot-on, tot-add, sg-add, sg-neg, sg-tot}
+use Rattle.ez_laws.proofs.ChainLaws.{o, add, neg, eta, lin, sg, tot, All, assoc, comm, inverse, lin-eta, lin-lin, lin-o, lin-add, lin-neg, lin-sg, lin-tot, lin-on, all-eta, all-add, all-neg, tot-on, tot-add, sg-add, sg-neg, sg-tot}
 use Rattle.ez_laws.proofs.Values.{field, val, all-val, val-extend, lin-append, lin-nil, lin-moved, lin-one}
 use Rattle.ez_laws.proofs.Fronts.{tot-first}
 use Rattle.ez_laws.proofs.PairKeys.{found-below}

@@ -1,5 +1,5 @@
 -- A reduced word is an s_j exactly where each of its letters is: the letters without s_(j+1) are a reduced word too.
-use Rattle.std.proofs.Common.{◌≡◌, ℕ, zero, suc, ◌<◌, ◌≤◌, List, [], ◌∷◌, Bool, true, false, inl, inr, refl, sym, ◌∙◌, ap, subst, arith, true≢false}
+use Rattle.std.proofs.Common.{◌≡◌, ℕ, suc, ◌≤◌, List, [], ◌∷◌, true, false, inl, inr, refl, sym, ◌∙◌, ap, arith, true≢false}
 use Rattle.std.specs.Cmp.Derive.{both_true}
 use Rattle.std.proofs.lemmas.Bool.{and_parts}
 use Rattle.spaces.specs.Simplicial.{Simplicial, IsSimplicial, has_degeneracy}
