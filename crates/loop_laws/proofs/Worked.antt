@@ -12,11 +12,17 @@ use Rattle.loop_laws.specs.LetterPlaces.{letters_have}
 abbrev vertex : List ℕ → RowSimplex
 vertex w = (w, 0)
 
+abbrev edge : RowSimplex
+edge = vertex (0 ∷ [])
+
+abbrev triangle : RowSimplex
+triangle = vertex (all_degeneracies 2)
+
 abbrev rows : Table
 rows =
     record { name = []; dim = 0; faces = [] }
-    ∷ (record { name = 0 ∷ []; dim = 2; faces = vertex (0 ∷ []) ∷ (vertex (0 ∷ []) ∷ (vertex (0 ∷ []) ∷ [])) }
-    ∷ (record { name = 1 ∷ []; dim = 3; faces = ([], 1) ∷ (vertex (all_degeneracies 2) ∷ (vertex (all_degeneracies 2) ∷ (vertex (all_degeneracies 2) ∷ []))) } ∷ []))
+    ∷ (record { name = 0 ∷ []; dim = 2; faces = edge ∷ (edge ∷ (edge ∷ [])) }
+    ∷ (record { name = 1 ∷ []; dim = 3; faces = ([], 1) ∷ (triangle ∷ (triangle ∷ (triangle ∷ []))) } ∷ []))
 
 abbrev disc : Space
 disc = table rows
@@ -39,7 +45,8 @@ inverse x = (true, x)
 fox_of_square : fox_of 3 disc (1, letter (t []) ∷ (letter (t []) ∷ [])) ≡ ((1, t [], letter (t []) ∷ []), 1) ∷ (((1, t [], []), 1) ∷ [])
 fox_of_square = refl
 
-unfox_of_square : unfox_of 3 disc (1, t [], letter (t []) ∷ []) ≡ ((1, letter (t []) ∷ (letter (t []) ∷ [])), 1) ∷ (((1, letter (t []) ∷ []), 2) ∷ [])
+unfox_of_square : unfox_of 3 disc (1, t [], letter (t []) ∷ [])
+    ≡ ((1, letter (t []) ∷ (letter (t []) ∷ [])), 1) ∷ (((1, letter (t []) ∷ []), 2) ∷ [])
 unfox_of_square = refl
 
 unfox_of_letter : unfox_of 3 disc (1, t [], []) ≡ ((1, letter (t []) ∷ []), 1) ∷ []
