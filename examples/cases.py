@@ -1,12 +1,13 @@
 """The sessions of this folder and of the documents: what is typed, and what must be printed.
 
 NAME.kenzo is a script, NAME.out what it prints. A block of a document whose first line begins with `> ` is a transcript: such lines are
-typed, the others are printed. The blocks under one heading `## ..` make one session.
+typed, the others are printed. The blocks under one heading `## ..` make one session, and so do those under one heading `### ..`.
 """
 import os
+import re
 
 FOLDER = os.path.dirname(os.path.realpath(__file__))
-DOCUMENTS = [os.path.join(FOLDER, "..", "docs", name) for name in ("tour.md", "language.md")]
+DOCUMENTS = [os.path.join(FOLDER, "..", *path) for path in (("README.md",), ("docs", "tour.md"), ("docs", "language.md"))]
 
 
 def scripts():
@@ -25,7 +26,7 @@ def transcripts():
     for path in DOCUMENTS:
         document = os.path.splitext(os.path.basename(path))[0]
         with open(path, encoding="utf-8") as text:
-            chapters = text.read().split("\n## ")[1:]
+            chapters = re.split("\n###? ", text.read())[1:]
         for chapter in chapters:
             heading = chapter.split("\n", 1)[0]
             typed, printed = session_of(chapter)

@@ -21,6 +21,18 @@ fn empty_cell(alloc: Global) -> Result<Arc<CellValue>, AllocError>
     Arc::new(alloc, CellValue { key, outcome })
 }
 
+fn some_cell(rt: &impl Abort, alloc: Global) -> Arc<CellValue>
+    ensures { result.key ≡ sphere_key 5 }
+{
+    empty_cell(alloc).expect(rt, "memory")
+}
+
+fn some_key(rt: &impl Abort, alloc: Global, degree: u32) -> Key
+    ensures { result ≡ sphere_key degree }
+{
+    key_in(alloc, degree).expect(rt, "memory")
+}
+
 fn ticket_of(rt: &impl Abort, claim: Claim) -> Ticket
     ensures { claim ≡ Granted result }
 {
@@ -32,80 +44,79 @@ fn ticket_of(rt: &impl Abort, claim: Claim) -> Ticket
     }
 }
 
-#[derive(Clone, Copy, Debug, PartialEq, Eq)]
-enum Seen {
-    Granted,
-    Present,
-    Busy(u32),
-    Full(u32),
-}
-
-// How a book answers, and a ticket is given back.
-fn spent(book: &mut Book, claim: Claim) -> Seen {
-    match claim {
-        Claim::Granted(ticket) => {
-            book.release(ticket);
-            Seen::Granted
-        }
-        Claim::Present(_) => Seen::Present,
-        Claim::Busy(seat) => Seen::Busy(seat),
-        Claim::Full(keys) => Seen::Full(keys),
-    }
-}
-
-// How a book answers a claim, if memory is found.
-fn asked(rt: &impl Abort, book: &mut Book, key: &Key, seat: u32) -> Seen {
-    let claim = book.claim(key, seat).expect(rt, "memory");
-    spent(book, claim)
-}
-
-fn taken(rt: &impl Abort, book: &mut Book, key: &Key, seat: u32) -> Ticket
-    ensures { result.key ≡ key.now }
+// Claims the key of a degree for a seat, which is to have it.
+fn taken(rt: &impl Abort, alloc: Global, book: &mut Book, degree: u32, seat: u32) -> Ticket
+    ensures { result.key ≡ sphere_key degree }
 {
-    let claim = book.claim(key, seat).expect(rt, "memory");
+    let key = some_key(rt, alloc, degree);
+    let claim = book.claim(&key, seat).expect(rt, "memory");
     ticket_of(rt, claim)
 }
 
-fn is_found(rt: &impl Abort, book: &Book, key: &Key) -> bool {
-    book.look(key).expect(rt, "memory").is_some()
+// How a book answers, where a ticket is given back: what it says, and the seat or the number of keys that it names.
+fn spent(book: &mut Book, claim: Claim) -> (&'static str, u32) {
+    match claim {
+        Claim::Granted(ticket) => {
+            book.release(ticket);
+            ("granted", 0)
+        }
+        Claim::Present(_) => ("present", 0),
+        Claim::Busy(seat) => ("busy", seat),
+        Claim::Full(keys) => ("full", keys),
+    }
 }
 
-fn some_key(rt: &impl Abort, alloc: Global, degree: u32) -> Key
-    ensures { result ≡ sphere_key degree }
-{
-    key_in(alloc, degree).expect(rt, "memory")
+// How a book answers the claim of the key of a degree.
+fn asked(
+    rt: &impl Abort,
+    alloc: Global,
+    book: &mut Book,
+    degree: u32,
+    seat: u32,
+) -> (&'static str, u32) {
+    let key = some_key(rt, alloc, degree);
+    let claim = book.claim(&key, seat).expect(rt, "memory");
+    spent(book, claim)
 }
 
-fn some_cell(rt: &impl Abort, alloc: Global) -> Arc<CellValue>
-    ensures { result.key ≡ sphere_key 5 }
-{
-    empty_cell(alloc).expect(rt, "memory")
+// Whether a book has the cell of the key of degree 5.
+fn is_found(rt: &impl Abort, alloc: Global, book: &Book) -> bool {
+    let key = some_key(rt, alloc, 5);
+    book.look(&key).expect(rt, "memory").is_some()
+}
+
+// Whether the first key of a book is that of a degree.
+fn is_first(rt: &impl Abort, alloc: Global, book: &Book, degree: u32) -> bool {
+    match book.keys().first() {
+        Some(key) => *key == some_key(rt, alloc, degree),
+        None => false,
+    }
 }
 
 #[test]
 fn a_key_that_is_published(rt: HostRuntime) {
-    let key = some_key(&rt, rt.alloc(), 5);
-    let mut book = new_book(rt.alloc());
-    let ticket = taken(&rt, &mut book, &key, 0);
-    let busy = asked(&rt, &mut book, &key, 1);
-    let found = is_found(&rt, &book, &key);
-    book.publish(ticket, some_cell(&rt, rt.alloc()));
-    assert_eq!(rt; busy, Seen::Busy(0));
+    let alloc = rt.alloc();
+    let mut book = new_book(alloc);
+    let ticket = taken(&rt, alloc, &mut book, 5, 0);
+    let busy = asked(&rt, alloc, &mut book, 5, 1);
+    let found = is_found(&rt, alloc, &book);
+    book.publish(ticket, some_cell(&rt, alloc));
+    assert_eq!(rt; busy, ("busy", 0));
     assert_eq!(rt; found, false);
-    assert_eq!(rt; asked(&rt, &mut book, &key, 1), Seen::Present);
-    assert_eq!(rt; is_found(&rt, &book, &key), true);
+    assert_eq!(rt; asked(&rt, alloc, &mut book, 5, 1), ("present", 0));
+    assert_eq!(rt; is_found(&rt, alloc, &book), true);
 }
 
 #[test]
 fn a_key_that_is_given_back(rt: HostRuntime) {
-    let key = some_key(&rt, rt.alloc(), 3);
-    let mut book = new_book(rt.alloc());
-    let ticket = taken(&rt, &mut book, &key, 0);
+    let alloc = rt.alloc();
+    let mut book = new_book(alloc);
+    let ticket = taken(&rt, alloc, &mut book, 3, 0);
     book.release(ticket);
-    let ticket = taken(&rt, &mut book, &key, 1);
-    let busy = asked(&rt, &mut book, &key, 1);
+    let ticket = taken(&rt, alloc, &mut book, 3, 1);
+    let busy = asked(&rt, alloc, &mut book, 3, 1);
     book.release(ticket);
-    assert_eq!(rt; busy, Seen::Busy(1));
+    assert_eq!(rt; busy, ("busy", 1));
     let events = [
         Event::Claim { seat: 0, key: 0 },
         Event::Release { seat: 0, key: 0 },
@@ -117,18 +128,13 @@ fn a_key_that_is_given_back(rt: HostRuntime) {
 
 #[test]
 fn keys_in_order(rt: HostRuntime) {
-    let high = some_key(&rt, rt.alloc(), 3);
-    let low = some_key(&rt, rt.alloc(), 2);
-    let mut book = new_book(rt.alloc());
-    assert_eq!(rt; asked(&rt, &mut book, &high, 7), Seen::Granted);
-    assert_eq!(rt; asked(&rt, &mut book, &low, 7), Seen::Granted);
-    assert_eq!(rt; asked(&rt, &mut book, &high, 7), Seen::Granted);
+    let alloc = rt.alloc();
+    let mut book = new_book(alloc);
+    for degree in [3, 2, 3] {
+        assert_eq!(rt; asked(&rt, alloc, &mut book, degree, 7), ("granted", 0));
+    }
     assert_eq!(rt; book.keys().len(), 2);
-    let is_first = match book.keys().first() {
-        Some(key) => *key == high,
-        None => false,
-    };
-    assert_eq!(rt; is_first, true);
+    assert_eq!(rt; is_first(&rt, alloc, &book, 3), true);
 }
 
 // A key through the bound: it is taken and given back.
@@ -164,7 +170,5 @@ fn a_book_as_a_memo(rt: HostRuntime) {
     let first = tried(&mut book, &key).expect(&rt, "memory");
     let found = shared(&mut book, &key, some_cell(&rt, rt.alloc())).expect(&rt, "memory");
     let last = tried(&mut book, &key).expect(&rt, "memory");
-    assert_eq!(rt; first, true);
-    assert_eq!(rt; found, true);
-    assert_eq!(rt; last, false);
+    assert_eq!(rt; (first, found, last), (true, true, false));
 }

@@ -20,7 +20,6 @@ use std::alloc::{AllocError, Global};
 use std::cmp::Ordering;
 use std::marker::Brand;
 use std::sync::ledger::{Blank, Ledger};
-use std::test::Fail;
 use term_lang::Term;
 
 /// How a memo answers the claim of a key that is not published.
@@ -182,65 +181,60 @@ fn has_no_cells(cell: &CellValue) -> bool {
     }
 }
 
-#[test]
-fn a_key_is_published_once(rt: HostRuntime) -> Result<(), Fail> {
-    let alloc = rt.alloc();
-    let rules = NoCells { has_memory: true };
-    let mut shelf = Shelf::new(alloc, Manner::Grants);
-    let first = force_high(alloc, &rules, &mut shelf)?;
-    assert_eq!(rt; has_no_cells(first.get()), true);
-    let second = force_high(alloc, &rules, &mut shelf)?;
-    assert_eq!(rt; has_no_cells(second.get()), true);
-    assert_eq!(rt; (shelf.granted, shelf.published, shelf.released), (1, 1, 0));
-    Ok(())
+/// Forces the key of no cells, and says whether there are none; None for want of memory.
+fn found(alloc: Global, shelf: &mut Shelf, has_memory: bool) -> Option<bool> {
+    match force_high(alloc, &NoCells { has_memory }, shelf) {
+        Ok(cell) => Some(has_no_cells(cell.get())),
+        Err(AllocError) => None,
+    }
+}
+
+/// What comes of forcing the key over a shelf of a manner, once for each rule that has memory or has none: how often no cells are found, how
+/// often memory is wanting, and what the shelf has granted, published and taken back.
+fn counts(alloc: Global, manner: Manner, memory: &[bool]) -> [u64; 5] {
+    let mut shelf = Shelf::new(alloc, manner);
+    let mut right: u64 = 0;
+    let mut refused: u64 = 0;
+    for has_memory in memory {
+        match found(alloc, &mut shelf, *has_memory) {
+            Some(true) => right = right.saturating_add(1),
+            Some(false) => {}
+            None => refused = refused.saturating_add(1),
+        }
+    }
+    [
+        right,
+        refused,
+        shelf.granted,
+        shelf.published,
+        shelf.released,
+    ]
 }
 
 #[test]
-fn laws_of_the_board_at_a_rule_set(_rt: HostRuntime) -> Result<(), Fail> {
+fn keys_over_shelves(rt: HostRuntime) {
+    let alloc = rt.alloc();
+    // A key is published once, and then needs no rule.
+    assert_eq!(rt;
+        counts(alloc, Manner::Grants, &[true, true]),
+        [2, 0, 1, 1, 0]
+    );
+    assert_eq!(rt;
+        counts(alloc, Manner::Grants, &[true, false]),
+        [2, 0, 1, 1, 0]
+    );
+    // Without memory it is given back.
+    assert_eq!(rt; counts(alloc, Manner::Grants, &[false]), [0, 1, 1, 0, 1]);
+    assert_eq!(rt;
+        counts(alloc, Manner::Grants, &[false, true]),
+        [1, 1, 2, 1, 1]
+    );
+    // A key that is busy or has no room comes from its rule.
+    assert_eq!(rt; counts(alloc, Manner::IsBusy, &[true]), [1, 0, 0, 0, 0]);
+    assert_eq!(rt; counts(alloc, Manner::IsFull, &[true]), [1, 0, 0, 0, 0]);
+}
+
+#[test]
+fn laws_of_the_board_at_a_rule_set() {
     interleavings(&NoCells { has_memory: true });
-    Ok(())
-}
-
-#[test]
-fn a_published_key_needs_no_rule(rt: HostRuntime) -> Result<(), Fail> {
-    let alloc = rt.alloc();
-    let mut shelf = Shelf::new(alloc, Manner::Grants);
-    let first = force_high(alloc, &NoCells { has_memory: true }, &mut shelf)?;
-    assert_eq!(rt; has_no_cells(first.get()), true);
-    let second = force_high(alloc, &NoCells { has_memory: false }, &mut shelf)?;
-    assert_eq!(rt; has_no_cells(second.get()), true);
-    Ok(())
-}
-
-#[test]
-fn without_memory_a_key_is_given_back(rt: HostRuntime) -> Result<(), Fail> {
-    let alloc = rt.alloc();
-    let mut shelf = Shelf::new(alloc, Manner::Grants);
-    let refused = force_high(alloc, &NoCells { has_memory: false }, &mut shelf);
-    assert_eq!(rt; refused.is_err(), true);
-    assert_eq!(rt; (shelf.granted, shelf.published, shelf.released), (1, 0, 1));
-    let found = force_high(alloc, &NoCells { has_memory: true }, &mut shelf)?;
-    assert_eq!(rt; has_no_cells(found.get()), true);
-    assert_eq!(rt; (shelf.granted, shelf.published, shelf.released), (2, 1, 1));
-    Ok(())
-}
-
-#[test]
-fn a_busy_key_comes_from_its_rule(rt: HostRuntime) -> Result<(), Fail> {
-    let alloc = rt.alloc();
-    let mut shelf = Shelf::new(alloc, Manner::IsBusy);
-    let found = force_high(alloc, &NoCells { has_memory: true }, &mut shelf)?;
-    assert_eq!(rt; has_no_cells(found.get()), true);
-    assert_eq!(rt; (shelf.granted, shelf.published, shelf.released), (0, 0, 0));
-    Ok(())
-}
-
-#[test]
-fn a_key_without_room_comes_from_its_rule(rt: HostRuntime) -> Result<(), Fail> {
-    let alloc = rt.alloc();
-    let mut shelf = Shelf::new(alloc, Manner::IsFull);
-    let found = force_high(alloc, &NoCells { has_memory: true }, &mut shelf)?;
-    assert_eq!(rt; has_no_cells(found.get()), true);
-    assert_eq!(rt; shelf.published, 0);
-    Ok(())
 }

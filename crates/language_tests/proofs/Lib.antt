@@ -1,2 +1,1 @@
-pub mod CircleRows
-pub mod TwoSphereRows
+pub mod Terms

@@ -2,15 +2,17 @@
 //! space, and each reply's text.
 #![tactic(auto)]
 
-mod tables;
-
-pub use tables::circle;
-
 #[cfg(test)]
-mod pair_tests;
+mod cell_chains;
 #[cfg(test)]
-mod reading_tests;
+mod line_tests;
+#[cfg(test)]
+mod line_texts;
 #[cfg(test)]
 mod reply_tests;
 #[cfg(test)]
-mod resolve_tests;
+mod simplex_tests;
+#[cfg(test)]
+mod simplex_texts;
+#[cfg(test)]
+mod spaces;

@@ -1,39 +1,8 @@
-ghost use Rattle.std.specs.Prelude.{◌≢◌};
-
-use crate::tables::point;
-use cells::IntList;
-use seqs::{Box, new_seq};
+use crate::answers::is_shown;
+use crate::tables::{bundle, named, point, two_points};
+use seqs::Box;
 use std::alloc::{AllocError, Global};
-use std::test::Fail;
-use term_lang::{
-    Name, Row, RowList, Table, Term, TermFault, check_term, depth, low, name_of, table_of, vertices,
-};
-
-// The table of two vertices.
-fn two_points(alloc: Global, a: Name, b: Name) -> Result<Table, AllocError>
-    requires { a ≢ b }
-{
-    let mut rows = RowList::new(alloc);
-    rows.push(Row {
-        name: a,
-        dim: 0,
-        faces: new_seq(alloc),
-    })?;
-    rows.push(Row {
-        name: b,
-        dim: 0,
-        faces: new_seq(alloc),
-    })?;
-    Ok(table_of(rows))
-}
-
-fn values(alloc: Global, numbers: &[i64]) -> Result<IntList, AllocError> {
-    let mut list = new_seq(alloc);
-    for number in numbers {
-        list.push(*number)?;
-    }
-    Ok(list)
-}
+use term_lang::{Term, TermFault, check_term, depth, low, vertices};
 
 fn suspended(alloc: Global, part: Term) -> Result<Term, AllocError> {
     Ok(Term::Suspension(Box::new(alloc, part)?))
@@ -43,98 +12,118 @@ fn looped(alloc: Global, part: Term) -> Result<Term, AllocError> {
     Ok(Term::Loop(Box::new(alloc, part)?))
 }
 
-#[test]
-fn eight_suspensions_are_too_deep(rt: HostRuntime) -> Result<(), Fail> {
+// The circle, suspended so many times.
+fn tower(alloc: Global, count: u32) -> Result<Term, AllocError> {
     let mut term = Term::Sphere(1);
-    for _ in 0..8 {
-        assert_eq!(rt; check_term(&term), Ok(()));
-        term = suspended(rt.alloc(), term)?;
+    for _ in 0..count {
+        term = suspended(alloc, term)?;
     }
-    assert_eq!(rt; check_term(&term), Err(TermFault::TooDeep(9)));
-    assert_eq!(rt; depth(&term), 9);
-    Ok(())
+    Ok(term)
+}
+
+fn is_allowed(term: Result<Term, AllocError>) -> bool {
+    match term {
+        Ok(term) => check_term(&term).is_ok(),
+        Err(_) => false,
+    }
+}
+
+fn is_refused(term: Result<Term, AllocError>, fault: TermFault) -> bool {
+    match term {
+        Ok(term) => check_term(&term) == Err(fault),
+        Err(_) => false,
+    }
+}
+
+fn has_depth(term: Result<Term, AllocError>, wanted: u32) -> bool {
+    match term {
+        Ok(term) => depth(&term) == wanted,
+        Err(_) => false,
+    }
+}
+
+// Whether a term is allowed, and has this low and so many vertices.
+fn measures(term: &Term, least: Option<u32>, count: u64) -> bool {
+    check_term(term).is_ok() && low(term) == least && vertices(term) == count
+}
+
+fn has_measures(term: Result<Term, AllocError>, least: Option<u32>, count: u64) -> bool {
+    match term {
+        Ok(term) => measures(&term, least, count),
+        Err(_) => false,
+    }
 }
 
 #[test]
-fn loop_space_of_the_3_sphere(rt: HostRuntime) -> Result<(), Fail> {
-    let term = looped(rt.alloc(), Term::Sphere(3))?;
-    assert!(rt; check_term(&term).is_ok());
-    assert_eq!(rt; low(&term), Some(2));
-    assert_eq!(rt; vertices(&term), 1);
-    Ok(())
+fn eight_suspensions_are_too_deep(rt: HostRuntime) {
+    for count in 0..8 {
+        assert!(rt; is_allowed(tower(rt.alloc(), count)), "{count}");
+    }
+    assert!(rt; is_refused(tower(rt.alloc(), 8), TermFault::TooDeep(9)));
+    assert!(rt; has_depth(tower(rt.alloc(), 8), 9));
+}
+
+fn vertex(alloc: Global) -> Result<Term, AllocError> {
+    Ok(Term::Table(point(alloc, named(b"v"))?))
+}
+
+fn vertices_apart(alloc: Global) -> Result<Term, AllocError> {
+    Ok(Term::Table(two_points(alloc, named(b"a"), named(b"b"))?))
+}
+
+fn suspended_vertices(alloc: Global) -> Result<Term, AllocError> {
+    suspended(alloc, vertices_apart(alloc)?)
 }
 
 #[test]
-fn one_vertex_has_no_low(rt: HostRuntime) -> Result<(), Fail> {
-    let name = name_of(b"v").ok_or("one byte is a name")?;
-    let term = Term::Table(point(rt.alloc(), name)?);
-    assert!(rt; check_term(&term).is_ok());
-    assert_eq!(rt; low(&term), None);
-    Ok(())
-}
-
-#[test]
-fn suspension_of_two_points_has_not_one_vertex_below(rt: HostRuntime) -> Result<(), Fail> {
-    let a = name_of(b"a").ok_or("one byte is a name")?;
-    let b = name_of(b"b").ok_or("one byte is a name")?;
-    let points = Term::Table(two_points(rt.alloc(), a, b)?);
-    assert!(rt; check_term(&points).is_ok());
-    assert_eq!(rt; vertices(&points), 2);
-    let term = suspended(rt.alloc(), points)?;
-    assert_eq!(rt; check_term(&term), Err(TermFault::NotOneVertex(2)));
-    Ok(())
-}
-
-#[test]
-fn loop_space_over_an_edge_is_refused(rt: HostRuntime) -> Result<(), Fail> {
-    let term = looped(rt.alloc(), Term::KZ1)?;
-    assert_eq!(rt; check_term(&term), Err(TermFault::NotOneReduced(1)));
-    Ok(())
-}
-
-#[test]
-fn left_part_is_refused_first(rt: HostRuntime) -> Result<(), Fail> {
-    let left = Box::new(rt.alloc(), Term::Sphere(17))?;
-    let right = Box::new(rt.alloc(), Term::Sphere(0))?;
-    let term = looped(rt.alloc(), Term::Product(left, right))?;
-    assert_eq!(rt; check_term(&term), Err(TermFault::BadSphere(17)));
-    Ok(())
-}
-
-fn checked_bundle(alloc: Global, numbers: &[i64]) -> Result<Option<TermFault>, Fail> {
-    let name = name_of(b"v").ok_or("one byte is a name")?;
-    let term = Term::Bundle(point(alloc, name)?, values(alloc, numbers)?);
-    Ok(check_term(&term).err())
-}
-
-#[test]
-fn one_vertex_has_the_value_0_alone(rt: HostRuntime) -> Result<(), Fail> {
+fn a_loop_space_and_tables_are_measured(rt: HostRuntime) {
     let alloc = rt.alloc();
-    assert_eq!(rt; checked_bundle(alloc, &[0])?, None);
-    assert_eq!(rt; checked_bundle(alloc, &[])?, Some(TermFault::BadCocycle(0)));
-    assert_eq!(rt;
-        checked_bundle(alloc, &[5])?,
-        Some(TermFault::BadCocycle(0))
-    );
-    assert_eq!(rt;
-        checked_bundle(alloc, &[0, 0])?,
-        Some(TermFault::BadCocycle(1))
-    );
-    Ok(())
+    assert!(rt; has_measures(looped(alloc, Term::Sphere(3)), Some(2), 1));
+    assert!(rt; has_measures(vertex(alloc), None, 1));
+    assert!(rt; has_measures(vertices_apart(alloc), None, 2));
+}
+
+// The loop space of a product of which both parts are no spaces.
+fn bad_product(alloc: Global) -> Result<Term, AllocError> {
+    let left = Box::new(alloc, Term::Sphere(17))?;
+    let right = Box::new(alloc, Term::Sphere(0))?;
+    looped(alloc, Term::Product(left, right))
+}
+
+// The left part is refused first.
+#[test]
+fn parts_are_refused(rt: HostRuntime) {
+    let alloc = rt.alloc();
+    assert!(rt; is_refused(suspended_vertices(alloc), TermFault::NotOneVertex(2)));
+    assert!(rt; is_refused(looped(alloc, Term::KZ1), TermFault::NotOneReduced(1)));
+    assert!(rt; is_refused(bad_product(alloc), TermFault::BadSphere(17)));
+}
+
+fn bundle_of_a_point(alloc: Global, numbers: &[i64]) -> Result<Term, AllocError> {
+    let base = point(alloc, named(b"v"))?;
+    bundle(alloc, base, numbers)
 }
 
 #[test]
-fn faults_are_shown_by_their_names(rt: HostRuntime) -> Result<(), Fail> {
-    let faults = [
-        (TermFault::TooDeep(9), "TooDeep"),
-        (TermFault::NotOneVertex(2), "NotOneVertex"),
-        (TermFault::NotOneReduced(1), "NotOneReduced"),
-        (TermFault::BadSphere(0), "BadSphere"),
-        (TermFault::BadCocycle(3), "BadCocycle"),
-    ];
-    for (fault, text) in faults {
-        let shown = format!(in rt.alloc(); "{fault}")?;
-        assert_eq!(rt; shown.as_str(), text);
+fn one_vertex_has_the_value_0_alone(rt: HostRuntime) {
+    let alloc = rt.alloc();
+    assert!(rt; is_allowed(bundle_of_a_point(alloc, &[0])));
+    assert!(rt; is_refused(bundle_of_a_point(alloc, &[]), TermFault::BadCocycle(0)));
+    assert!(rt; is_refused(bundle_of_a_point(alloc, &[5]), TermFault::BadCocycle(0)));
+    assert!(rt; is_refused(bundle_of_a_point(alloc, &[0, 0]), TermFault::BadCocycle(1)));
+}
+
+const FAULTS: [(TermFault, &str); 5] = [
+    (TermFault::TooDeep(9), "TooDeep"),
+    (TermFault::NotOneVertex(2), "NotOneVertex"),
+    (TermFault::NotOneReduced(1), "NotOneReduced"),
+    (TermFault::BadSphere(0), "BadSphere"),
+    (TermFault::BadCocycle(3), "BadCocycle"),
+];
+
+#[test]
+fn faults_are_shown_by_their_names(rt: HostRuntime) {
+    for (fault, text) in FAULTS {
+        assert!(rt; is_shown(rt.alloc(), fault, text), "{text}");
     }
-    Ok(())
 }

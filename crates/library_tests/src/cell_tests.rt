@@ -1,13 +1,12 @@
+use crate::answers::{crosses, is};
 use cells::{
-    Cell, Letter, Simplex, SmallCell, copy_cell, copy_letters, copy_simplex, copy_small, degree,
-    small_degree,
+    Cell, Letter, LetterList, Simplex, SmallCell, copy_cell, copy_letters, copy_simplex,
+    copy_small, degree, small_degree,
 };
 use seqs::{Box, new_seq};
 use simp_ops::Degens;
 use std::alloc::{AllocError, Global};
 use std::test::Fail;
-
-fn takes<T: Send + Sync + Drop>(_value: T) {}
 
 // s_2 s_0 of the suspended top cell of the 2-sphere, in degree 5.
 fn suspended(alloc: Global) -> Result<Simplex, AllocError> {
@@ -19,46 +18,43 @@ fn suspended(alloc: Global) -> Result<Simplex, AllocError> {
 }
 
 #[test]
-fn copy_of_a_simplex_equals_it(rt: HostRuntime) -> Result<(), Fail> {
+fn copies_and_clones_of_a_simplex_equal_it(rt: HostRuntime) -> Result<(), Fail> {
     let simplex = suspended(rt.alloc())?;
     assert_eq!(rt; degree(&simplex), 5);
-    let copy = copy_simplex(rt.alloc(), &simplex)?;
-    assert!(rt; copy == simplex);
-    let cell = copy_cell(rt.alloc(), &simplex.cell)?;
-    assert!(rt; cell == simplex.cell);
-    takes(copy);
+    assert!(rt; is(copy_simplex(rt.alloc(), &simplex), &simplex));
+    assert!(rt; is(copy_cell(rt.alloc(), &simplex.cell), &simplex.cell));
+    assert!(rt; is(simplex.clone(), &simplex));
+    crosses(&simplex);
     Ok(())
+}
+
+fn word(alloc: Global) -> Result<LetterList, AllocError> {
+    let mut letters = new_seq(alloc);
+    letters.push(Letter {
+        inverse: true,
+        simplex: suspended(alloc)?,
+    })?;
+    Ok(letters)
 }
 
 #[test]
 fn copy_of_a_word_equals_it(rt: HostRuntime) -> Result<(), Fail> {
-    let mut letters = new_seq(rt.alloc());
-    letters.push(Letter {
-        inverse: true,
-        simplex: suspended(rt.alloc())?,
-    })?;
-    let copy = copy_letters(rt.alloc(), &letters)?;
-    assert!(rt; copy == letters);
+    let letters = word(rt.alloc())?;
+    assert!(rt; is(copy_letters(rt.alloc(), &letters), &letters));
     Ok(())
 }
 
-#[test]
-fn clone_of_a_simplex_equals_it(rt: HostRuntime) -> Result<(), Fail> {
-    let simplex = suspended(rt.alloc())?;
-    let clone = simplex.clone()?;
-    assert!(rt; clone == simplex);
-    Ok(())
+fn small(alloc: Global) -> Result<SmallCell, AllocError> {
+    let below = Box::new(alloc, SmallCell::One(Cell::Top(2)))?;
+    Ok(SmallCell::Up(below))
 }
 
 #[test]
 fn copy_and_clone_of_a_small_cell_equal_it(rt: HostRuntime) -> Result<(), Fail> {
-    let below = Box::new(rt.alloc(), SmallCell::One(Cell::Top(2)))?;
-    let small = SmallCell::Up(below);
+    let small = small(rt.alloc())?;
     assert_eq!(rt; small_degree(&small), 3);
-    let copy = copy_small(rt.alloc(), &small)?;
-    assert!(rt; copy == small);
-    let clone = small.clone()?;
-    assert!(rt; clone == small);
-    takes(clone);
+    assert!(rt; is(copy_small(rt.alloc(), &small), &small));
+    assert!(rt; is(small.clone(), &small));
+    crosses(&small);
     Ok(())
 }

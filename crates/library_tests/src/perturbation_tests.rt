@@ -1,10 +1,12 @@
-// The second perturbation of the circle bundle of value 2 over the 2-sphere, over F_2 and F_3.
+// The worked perturbation over F_3, and the circle bundle of value 2 over the 2-sphere, over F_2 and F_3.
+use crate::answers;
+use crate::answers::has;
 use crate::circle_bundle::{EMPTY, ONE, ONE_ONE, S2, TWO, Twist, VERTEX, tensor_of, tensors_over};
+use crate::tiny::{Added, Tiny, U, V, X, Y};
 use chain_core::Chain;
-use fp_field::{Fp, Prime};
+use fp_field::Prime;
 use perturb::{perturbed_d, perturbed_f, perturbed_g, perturbed_h};
 use std::alloc::{AllocError, Global};
-use std::test::Fail;
 use tensor_red::Tensor;
 
 /// More terms than the series has: each lowers the degree in the base, which is at most 2.
@@ -61,52 +63,61 @@ fn homotopy(alloc: Global, p: Prime) -> Result<Chain<Tensor<u32, u32>>, AllocErr
 
 // The coefficients of the comments above, with 2 = 0 and -1 = 1.
 #[test]
-fn over_two(rt: HostRuntime) -> Result<(), Fail> {
-    let one = Fp { value: 1 };
-    assert_eq!(rt;
-        small_differential(rt.alloc(), Prime::Two)?.is_empty(),
-        true
-    );
-    let lift = lift(rt.alloc(), Prime::Two)?;
-    let terms = [
+fn over_two(rt: HostRuntime) {
+    let one = answers::ONE;
+    let p = Prime::Two;
+    let lifted = [
         (tensor_of(VERTEX, ONE_ONE), one),
         (tensor_of(S2, EMPTY), one),
     ];
-    assert_eq!(rt; lift.terms(), terms.as_slice());
-    assert_eq!(rt; projection(rt.alloc(), Prime::Two)?.is_empty(), true);
-    let homotopy = homotopy(rt.alloc(), Prime::Two)?;
-    assert_eq!(rt;
-        homotopy.terms(),
-        [(tensor_of(VERTEX, ONE_ONE), one)].as_slice()
+    assert!(rt; has(small_differential(rt.alloc(), p), &[]));
+    assert!(rt; has(lift(rt.alloc(), p), &lifted));
+    assert!(rt; has(projection(rt.alloc(), p), &[]));
+    assert!(rt;
+        has(
+            homotopy(rt.alloc(), p),
+            &[(tensor_of(VERTEX, ONE_ONE), one)]
+        )
     );
-    Ok(())
 }
 
 // The coefficients of the comments above, with -1 = 2.
 #[test]
-fn over_three(rt: HostRuntime) -> Result<(), Fail> {
-    let one = Fp { value: 1 };
-    let two = Fp { value: 2 };
-    let differential = small_differential(rt.alloc(), Prime::Three)?;
-    assert_eq!(rt;
-        differential.terms(),
-        [(tensor_of(VERTEX, ONE), two)].as_slice()
-    );
-    let lift = lift(rt.alloc(), Prime::Three)?;
-    let terms = [
+fn over_three(rt: HostRuntime) {
+    let one = answers::ONE;
+    let two = answers::TWO;
+    let p = Prime::Three;
+    let lifted = [
         (tensor_of(VERTEX, ONE_ONE), one),
         (tensor_of(S2, EMPTY), one),
     ];
-    assert_eq!(rt; lift.terms(), terms.as_slice());
-    let projection = projection(rt.alloc(), Prime::Three)?;
-    assert_eq!(rt;
-        projection.terms(),
-        [(tensor_of(VERTEX, ONE), two)].as_slice()
+    assert!(rt;
+        has(
+            small_differential(rt.alloc(), p),
+            &[(tensor_of(VERTEX, ONE), two)]
+        )
     );
-    let homotopy = homotopy(rt.alloc(), Prime::Three)?;
-    assert_eq!(rt;
-        homotopy.terms(),
-        [(tensor_of(VERTEX, ONE_ONE), two)].as_slice()
+    assert!(rt; has(lift(rt.alloc(), p), &lifted));
+    assert!(rt; has(projection(rt.alloc(), p), &[(tensor_of(VERTEX, ONE), two)]));
+    assert!(rt;
+        has(
+            homotopy(rt.alloc(), p),
+            &[(tensor_of(VERTEX, ONE_ONE), two)]
+        )
     );
-    Ok(())
+}
+
+// d(y) = -x, f(u) = -x, g(y) = y - v and h(u) = v.
+#[test]
+fn the_worked_maps(rt: HostRuntime) {
+    let one = answers::ONE;
+    let two = answers::TWO;
+    let d = perturbed_d(rt.alloc(), &Tiny, &Added, &mut (), 2, &Y);
+    assert!(rt; has(d, &[(X, two)]));
+    let f = perturbed_f(rt.alloc(), &Tiny, &Added, &mut (), 2, &U);
+    assert!(rt; has(f, &[(X, two)]));
+    let g = perturbed_g(rt.alloc(), &Tiny, &Added, &mut (), 2, &Y);
+    assert!(rt; has(g, &[(Y, one), (V, two)]));
+    let h = perturbed_h(rt.alloc(), &Tiny, &Added, &mut (), 2, &U);
+    assert!(rt; has(h, &[(V, one)]));
 }

@@ -4,13 +4,13 @@ ghost use Rattle.fp_field.specs.declared.prime.Prime.TheVariants.{Three};
 ghost use Rattle.echelons.specs.Echelon.{Vector, IsVector, in_span};
 ghost use Rattle.elim_fp.specs.Rows.{vectors_of, IsRow};
 
+use crate::answers::{fails, is_shown};
 use elim_fp::{
     Echelon, FpRow, FpRowList, SolveFault, complement, echelon, kernel, matrix_of, relations,
     row_of, solve,
 };
 use fp_field::{Fp, Prime};
 use std::alloc::{AllocError, Global};
-use std::test::Fail;
 
 /// The row of two numbers over F_3.
 fn pair(alloc: Global, a: u8, b: u8) -> Result<FpRow, AllocError>
@@ -55,79 +55,78 @@ fn plane(alloc: Global) -> Result<Echelon, AllocError>
     Ok(plane)
 }
 
-/// The value of a row at a place.
-fn value_at(row: Option<&FpRow>, place: usize) -> Option<u8> {
-    let row = row?;
-    if place < row.width() {
-        Some(row.entry(place).value)
-    } else {
-        None
+/// Whether a row has these two numbers.
+fn is_pair(row: &FpRow, a: u8, b: u8) -> bool {
+    row.width() == 2 && row.entry(0).value == a && row.entry(1).value == b
+}
+
+/// Whether a basis came, of this one row.
+fn is_line(answer: Result<Echelon, AllocError>, a: u8, b: u8) -> bool {
+    match answer {
+        Ok(basis) => basis.rows().len() == 1
+            && basis.rows().as_slice().iter().all(|row| is_pair(row, a, b)),
+        Err(_) => false,
+    }
+}
+
+/// What is left of the plane beside the line.
+fn beside_the_line(alloc: Global) -> Result<Echelon, AllocError> {
+    let plane = plane(alloc)?;
+    let line = line(alloc)?;
+    complement(alloc, &plane, &line)
+}
+
+/// The kernel of the row (1,1).
+fn kernel_of_a_row(alloc: Global) -> Result<Echelon, AllocError> {
+    let mut rows = FpRowList::new(alloc);
+    rows.push(pair(alloc, 1, 1)?)?;
+    kernel(alloc, &matrix_of(Prime::Three, 2, rows))
+}
+
+/// The relations of (2,1) and (1,2).
+fn relations_of_two_rows(alloc: Global) -> Result<Echelon, AllocError> {
+    let rows = both(alloc, pair(alloc, 2, 1)?, pair(alloc, 1, 2)?)?;
+    relations(alloc, &matrix_of(Prime::Three, 2, rows))
+}
+
+#[test]
+fn lines_in_the_plane(rt: HostRuntime) {
+    assert!(rt; is_line(line(rt.alloc()), 1, 2));
+    assert!(rt; is_line(beside_the_line(rt.alloc()), 0, 1));
+    assert!(rt; is_line(kernel_of_a_row(rt.alloc()), 1, 2));
+    assert!(rt; is_line(relations_of_two_rows(rt.alloc()), 1, 1));
+}
+
+/// The coefficients of a pair over the line.
+fn over_the_line(alloc: Global, a: u8, b: u8) -> Result<FpRow, SolveFault>
+    requires a_in { a < 3 }
+    requires b_in { b < 3 }
+{
+    let Ok(line) = line(alloc) else {
+        return Err(SolveFault::Memory);
+    };
+    let Ok(pair) = pair(alloc, a, b) else {
+        return Err(SolveFault::Memory);
+    };
+    solve(alloc, &line, &pair)
+}
+
+/// Whether coefficients came, this one alone.
+fn is_number(answer: Result<FpRow, SolveFault>, a: u8) -> bool {
+    match answer {
+        Ok(row) => row.width() == 1 && row.entry(0).value == a,
+        Err(_) => false,
     }
 }
 
 #[test]
-fn two_rows_span_a_line(rt: HostRuntime) -> Result<(), Fail> {
-    let line = line(rt.alloc())?;
-    assert_eq!(rt; line.rows().len(), 1);
-    assert_eq!(rt; value_at(line.rows().get(0), 0), Some(1));
-    assert_eq!(rt; value_at(line.rows().get(0), 1), Some(2));
-    Ok(())
+fn coefficients_over_the_line(rt: HostRuntime) {
+    assert!(rt; is_number(over_the_line(rt.alloc(), 2, 1), 2));
+    assert!(rt; fails(over_the_line(rt.alloc(), 0, 1), SolveFault::NotIn(1)));
 }
 
 #[test]
-fn coefficients_over_the_line(rt: HostRuntime) -> Result<(), Fail> {
-    let line = line(rt.alloc())?;
-    let inside = solve(rt.alloc(), &line, &pair(rt.alloc(), 2, 1)?);
-    assert!(rt; matches!(&inside, Ok(_)));
-    if let Ok(row) = &inside {
-        assert_eq!(rt; row.width(), 1);
-        assert_eq!(rt; value_at(Some(row), 0), Some(2));
-    }
-    let outside = solve(rt.alloc(), &line, &pair(rt.alloc(), 0, 1)?);
-    assert!(rt; matches!(&outside, Err(SolveFault::NotIn(1))));
-    Ok(())
-}
-
-#[test]
-fn complement_of_the_line(rt: HostRuntime) -> Result<(), Fail> {
-    let plane = plane(rt.alloc())?;
-    let line = line(rt.alloc())?;
-    let rest = complement(rt.alloc(), &plane, &line)?;
-    assert_eq!(rt; rest.rows().len(), 1);
-    assert_eq!(rt; value_at(rest.rows().get(0), 0), Some(0));
-    assert_eq!(rt; value_at(rest.rows().get(0), 1), Some(1));
-    Ok(())
-}
-
-#[test]
-fn kernel_of_a_row(rt: HostRuntime) -> Result<(), Fail> {
-    let mut rows = FpRowList::new(rt.alloc());
-    rows.push(pair(rt.alloc(), 1, 1)?)?;
-    let kernel = kernel(rt.alloc(), &matrix_of(Prime::Three, 2, rows))?;
-    assert_eq!(rt; kernel.rows().len(), 1);
-    assert_eq!(rt; value_at(kernel.rows().get(0), 0), Some(1));
-    assert_eq!(rt; value_at(kernel.rows().get(0), 1), Some(2));
-    Ok(())
-}
-
-#[test]
-fn relations_of_two_rows(rt: HostRuntime) -> Result<(), Fail> {
-    let rows = both(rt.alloc(), pair(rt.alloc(), 2, 1)?, pair(rt.alloc(), 1, 2)?)?;
-    let relations = relations(rt.alloc(), &matrix_of(Prime::Three, 2, rows))?;
-    assert_eq!(rt; relations.rows().len(), 1);
-    assert_eq!(rt; value_at(relations.rows().get(0), 0), Some(1));
-    assert_eq!(rt; value_at(relations.rows().get(0), 1), Some(1));
-    Ok(())
-}
-
-#[test]
-fn faults_are_shown_by_their_names(rt: HostRuntime) -> Result<(), Fail> {
-    for (fault, text) in [
-        (SolveFault::NotIn(1), "NotIn"),
-        (SolveFault::Memory, "Memory"),
-    ] {
-        let shown = format!(in rt.alloc(); "{fault}")?;
-        assert_eq!(rt; shown.as_str(), text);
-    }
-    Ok(())
+fn faults_are_shown_by_their_names(rt: HostRuntime) {
+    assert!(rt; is_shown(rt.alloc(), SolveFault::NotIn(1), "NotIn"));
+    assert!(rt; is_shown(rt.alloc(), SolveFault::Memory, "Memory"));
 }

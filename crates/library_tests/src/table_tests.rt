@@ -1,3 +1,4 @@
+use crate::answers::{fails, is, is_shown};
 use finite_sets::{
     BaseFault, TableFault, build_table, bundle_base, rows_told, sphere_table, table_faults,
 };
@@ -7,7 +8,7 @@ use std::alloc::{AllocError, Global};
 use std::process::Abort;
 use std::test::Fail;
 use term_lang::{
-    FaceText, FaceTextList, Name, RowText, RowTextList, Table, TableFace, Term, name_of,
+    FaceText, FaceTextList, Name, Row, RowText, RowTextList, Table, TableFace, Term, name_of,
 };
 
 fn named(rt: &impl Abort, text: &str) -> Name {
@@ -60,45 +61,60 @@ fn push_row(
 }
 
 // Rows are written `v;e v v;t e 0:v e`.
-fn built(rt: &impl Abort, alloc: Global, text: &str) -> Result<Table, TableFault> {
+fn written(rt: &impl Abort, alloc: Global, text: &str) -> Result<RowTextList, AllocError> {
     let mut rows = RowTextList::new(alloc);
     for row in text.split(';') {
         let (name, faces) = row.split_once(' ').unwrap_or((row, ""));
         push_row(rt, alloc, &mut rows, name, faces)?;
     }
+    Ok(rows)
+}
+
+fn built(rt: &impl Abort, alloc: Global, text: &str) -> Result<Table, TableFault> {
+    let rows = written(rt, alloc, text)?;
     build_table(alloc, &rows)
 }
 
-#[test]
-fn no_rows(rt: HostRuntime) {
-    let alloc = rt.alloc();
-    let rows = RowTextList::new(alloc);
-    assert_eq!(rt; build_table(alloc, &rows).err(), Some(TableFault::NoVertex));
+fn has_rows<E: Drop>(table: Result<Table, E>, count: usize) -> bool {
+    match table {
+        Ok(table) => table.rows().len() == count,
+        Err(_) => false,
+    }
 }
 
+const CASES: [(&str, TableFault); 5] = [
+    ("v;v", TableFault::DuplicateCell(1)),
+    ("v;e v", TableFault::BadDimension(1)),
+    ("v;e v e", TableFault::UnknownCell(1, 1)),
+    ("v;t 0:v 1:v 0:v", TableFault::BadDimension(1)),
+    ("a;b;e a b;t e e e", TableFault::FaceLaw(3, 0, 2)),
+];
+
 #[test]
-fn faults_of_rows(rt: HostRuntime) {
+fn rows_that_are_no_table(rt: HostRuntime) {
     let alloc = rt.alloc();
-    assert_eq!(rt;
-        built(&rt, alloc, "v;v").err(),
-        Some(TableFault::DuplicateCell(1))
-    );
-    assert_eq!(rt;
-        built(&rt, alloc, "v;e v").err(),
-        Some(TableFault::BadDimension(1))
-    );
-    assert_eq!(rt;
-        built(&rt, alloc, "v;e v e").err(),
-        Some(TableFault::UnknownCell(1, 1))
-    );
-    assert_eq!(rt;
-        built(&rt, alloc, "v;t 0:v 1:v 0:v").err(),
-        Some(TableFault::BadDimension(1))
-    );
-    assert_eq!(rt;
-        built(&rt, alloc, "a;b;e a b;t e e e").err(),
-        Some(TableFault::FaceLaw(3, 0, 2))
-    );
+    let none = RowTextList::new(alloc);
+    assert!(rt; fails(build_table(alloc, &none), TableFault::NoVertex));
+    for (rows, fault) in CASES {
+        assert!(rt; fails(built(&rt, alloc, rows), fault), "{rows}");
+    }
+}
+
+// Whether a row has this name and dimension, and so many faces.
+fn is_row(row: Option<&Row>, name: &str, dim: u32, faces: usize) -> bool {
+    match row {
+        Some(row) => {
+            row.name.as_bytes() == name.as_bytes() && row.dim == dim && row.faces.len() == faces
+        }
+        None => false,
+    }
+}
+
+fn has_face(row: Option<&Row>, place: usize, face: TableFace) -> bool {
+    match row {
+        Some(row) => row.faces.get(place) == Some(&face),
+        None => false,
+    }
 }
 
 #[test]
@@ -107,13 +123,12 @@ fn projective_plane(rt: HostRuntime) -> Result<(), Fail> {
     table_faults();
     rows_told();
     assert_eq!(rt; table.rows().len(), 3);
-    let triangle = table.rows().get(2).expect(&rt, "the triangle");
-    assert_eq!(rt; triangle.dim, 2);
+    assert!(rt; is_row(table.rows().get(2), "t", 2, 3));
     let vertex = TableFace {
         degens: Degens { mask: 1 },
         row: 0,
     };
-    assert_eq!(rt; triangle.faces.get(1), Some(&vertex));
+    assert!(rt; has_face(table.rows().get(2), 1, vertex));
     Ok(())
 }
 
@@ -136,15 +151,11 @@ fn push_cells(
 #[test]
 fn largest_table(rt: HostRuntime) -> Result<(), Fail> {
     let alloc = rt.alloc();
-    let mut rows = RowTextList::new(alloc);
-    push_row(&rt, alloc, &mut rows, "v", "")?;
+    let mut rows = written(&rt, alloc, "v")?;
     push_cells(&rt, alloc, &mut rows, 255)?;
-    assert_eq!(rt; build_table(alloc, &rows)?.rows().len(), 256);
+    assert!(rt; has_rows(build_table(alloc, &rows), 256));
     push_row(&rt, alloc, &mut rows, "w", "")?;
-    assert_eq!(rt;
-        build_table(alloc, &rows).err(),
-        Some(TableFault::TooManyCells(257))
-    );
+    assert!(rt; fails(build_table(alloc, &rows), TableFault::TooManyCells(257)));
     Ok(())
 }
 
@@ -152,70 +163,35 @@ fn largest_table(rt: HostRuntime) -> Result<(), Fail> {
 fn table_of_a_sphere(rt: HostRuntime) -> Result<(), Fail> {
     let sphere = sphere_table(rt.alloc(), 2)?;
     assert_eq!(rt; sphere.rows().len(), 2);
-    let cell = sphere.rows().get(1).expect(&rt, "the cell");
-    assert_eq!(rt; cell.name, named(&rt, "S2"));
-    assert_eq!(rt; cell.faces.len(), 3);
+    assert!(rt; is_row(sphere.rows().get(1), "S2", 2, 3));
+    assert!(rt; is(bundle_base(rt.alloc(), &Term::Sphere(2)), &sphere));
     Ok(())
 }
 
 #[test]
 fn bases(rt: HostRuntime) -> Result<(), Fail> {
     let alloc = rt.alloc();
-    let sphere = sphere_table(alloc, 2)?;
-    assert_eq!(rt; bundle_base(alloc, &Term::Sphere(2))?, sphere);
-    let term = Term::Table(sphere);
-    assert_eq!(rt; bundle_base(alloc, &term)?.rows().len(), 2);
-    assert_eq!(rt;
-        bundle_base(alloc, &Term::KZ1).err(),
-        Some(BaseFault::BaseNotTable)
-    );
+    let term = Term::Table(sphere_table(alloc, 2)?);
+    assert!(rt; has_rows(bundle_base(alloc, &term), 2));
+    assert!(rt; fails(bundle_base(alloc, &Term::KZ1), BaseFault::BaseNotTable));
     Ok(())
 }
 
-#[test]
-fn texts_of_table_faults(rt: HostRuntime) -> Result<(), Fail> {
-    let alloc = rt.alloc();
-    assert_eq!(rt;
-        format!(in alloc; "{}", TableFault::NoVertex)?.as_str(),
-        "NoVertex"
-    );
-    assert_eq!(rt;
-        format!(in alloc; "{}", TableFault::BadDimension(1))?.as_str(),
-        "BadDimension"
-    );
-    assert_eq!(rt;
-        format!(in alloc; "{}", TableFault::UnknownCell(1, 2))?.as_str(),
-        "UnknownCell"
-    );
-    assert_eq!(rt;
-        format!(in alloc; "{}", TableFault::FaceLaw(1, 2, 3))?.as_str(),
-        "FaceLaw"
-    );
-    Ok(())
-}
+const TABLE_FAULTS: [(TableFault, &str); 7] = [
+    (TableFault::NoVertex, "NoVertex"),
+    (TableFault::BadDimension(1), "BadDimension"),
+    (TableFault::UnknownCell(1, 2), "UnknownCell"),
+    (TableFault::FaceLaw(1, 2, 3), "FaceLaw"),
+    (TableFault::TooManyCells(257), "TooManyCells"),
+    (TableFault::DuplicateCell(1), "DuplicateCell"),
+    (TableFault::Memory, "Memory"),
+];
 
 #[test]
-fn texts_of_other_faults(rt: HostRuntime) -> Result<(), Fail> {
-    let alloc = rt.alloc();
-    assert_eq!(rt;
-        format!(in alloc; "{}", TableFault::TooManyCells(257))?.as_str(),
-        "TooManyCells"
-    );
-    assert_eq!(rt;
-        format!(in alloc; "{}", TableFault::DuplicateCell(1))?.as_str(),
-        "DuplicateCell"
-    );
-    assert_eq!(rt;
-        format!(in alloc; "{}", TableFault::Memory)?.as_str(),
-        "Memory"
-    );
-    assert_eq!(rt;
-        format!(in alloc; "{}", BaseFault::BaseNotTable)?.as_str(),
-        "BaseNotTable"
-    );
-    assert_eq!(rt;
-        format!(in alloc; "{}", BaseFault::Memory)?.as_str(),
-        "Memory"
-    );
-    Ok(())
+fn faults_are_shown_by_their_names(rt: HostRuntime) {
+    for (fault, text) in TABLE_FAULTS {
+        assert!(rt; is_shown(rt.alloc(), fault, text), "{text}");
+    }
+    assert!(rt; is_shown(rt.alloc(), BaseFault::BaseNotTable, "BaseNotTable"));
+    assert!(rt; is_shown(rt.alloc(), BaseFault::Memory, "Memory"));
 }

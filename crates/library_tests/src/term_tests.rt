@@ -1,53 +1,85 @@
-use crate::tables::point;
+use crate::answers::{crosses, is};
+use crate::tables::{bundle, named, point};
 use seqs::{Box, new_seq};
 use std::alloc::{AllocError, Global};
 use std::test::Fail;
-use term_lang::{
-    FaceText, FaceTextList, Name, Row, RowList, RowText, RowTextList, Table, Term, copy_table,
-    copy_term, name_of, share, table_of,
-};
+use term_lang::{FaceText, FaceTextList, RowText, RowTextList, Term, copy_table, copy_term, share};
 
-fn takes<T: Send + Sync + Drop>(_value: T) {}
-
-#[test]
-fn share_of_the_3_sphere_holds_it(rt: HostRuntime) -> Result<(), Fail> {
-    let shared = share(rt.alloc(), &Term::Sphere(3))?;
-    assert_eq!(rt; shared.get(), &Term::Sphere(3));
-    takes(shared);
-    Ok(())
+fn is_shared(alloc: Global, term: &Term) -> bool {
+    match share(alloc, term) {
+        Ok(shared) => {
+            crosses(&shared);
+            shared.get() == term
+        }
+        Err(_) => false,
+    }
 }
 
 #[test]
-fn copies_of_terms_and_tables_equal_them(rt: HostRuntime) -> Result<(), Fail> {
-    let alloc = rt.alloc();
-    let name = name_of(b"v").ok_or("one byte is a name")?;
-    let table = point(alloc, name)?;
-    let copy = copy_table(alloc, &table)?;
-    assert!(rt; copy == table);
-    let base = Term::Bundle(table, new_seq(alloc));
-    let path = Term::Path(Box::new(alloc, Term::Sphere(2))?);
-    let pair = Term::Product(Box::new(alloc, base)?, Box::new(alloc, path)?);
-    let term = Term::Suspension(Box::new(alloc, pair)?);
-    let copy = copy_term(alloc, &term)?;
-    assert!(rt; copy == term);
-    assert!(rt; copy != Term::KZ1);
+fn share_of_the_3_sphere_holds_it(rt: HostRuntime) {
+    assert!(rt; is_shared(rt.alloc(), &Term::Sphere(3)));
+}
+
+fn path(alloc: Global, part: Term) -> Result<Term, AllocError> {
+    Ok(Term::Path(Box::new(alloc, part)?))
+}
+
+fn suspended_product(alloc: Global, left: Term, right: Term) -> Result<Term, AllocError> {
+    let left = Box::new(alloc, left)?;
+    let right = Box::new(alloc, right)?;
+    Ok(Term::Suspension(Box::new(alloc, Term::Product(left, right))?))
+}
+
+#[test]
+fn a_copy_of_a_table_equals_it(rt: HostRuntime) -> Result<(), Fail> {
+    let table = point(rt.alloc(), named(b"v"))?;
+    assert!(rt; is(copy_table(rt.alloc(), &table), &table));
     Ok(())
+}
+
+fn term_of_each_shape(alloc: Global) -> Result<Term, AllocError> {
+    let base = bundle(alloc, point(alloc, named(b"v"))?, &[])?;
+    let path = path(alloc, Term::Sphere(2))?;
+    suspended_product(alloc, base, path)
+}
+
+#[test]
+fn a_copy_of_a_term_equals_it(rt: HostRuntime) -> Result<(), Fail> {
+    let term = term_of_each_shape(rt.alloc())?;
+    assert!(rt; is(copy_term(rt.alloc(), &term), &term));
+    assert!(rt; term != Term::KZ1);
+    Ok(())
+}
+
+fn one_face(alloc: Global) -> Result<FaceTextList, AllocError> {
+    let mut faces = FaceTextList::new(alloc);
+    faces.push(FaceText {
+        word: new_seq(alloc),
+        name: named(b"S2"),
+    })?;
+    Ok(faces)
+}
+
+fn one_row(alloc: Global) -> Result<RowTextList, AllocError> {
+    let mut rows = RowTextList::new(alloc);
+    rows.push(RowText {
+        name: named(b"S2"),
+        faces: one_face(alloc)?,
+    })?;
+    Ok(rows)
+}
+
+fn has_one_face(row: &RowText, name: &[u8]) -> bool {
+    match row.faces.get(0) {
+        Some(face) => row.faces.len() == 1 && face.name.as_bytes() == name,
+        None => false,
+    }
 }
 
 #[test]
 fn written_rows_are_read_back(rt: HostRuntime) -> Result<(), Fail> {
-    let alloc = rt.alloc();
-    let name = name_of(b"S2").ok_or("two bytes are a name")?;
-    let mut faces = FaceTextList::new(alloc);
-    faces.push(FaceText {
-        word: new_seq(alloc),
-        name,
-    })?;
-    assert_eq!(rt; faces.len(), 1);
-    let mut rows = RowTextList::new(alloc);
-    rows.push(RowText { name, faces })?;
+    let rows = one_row(rt.alloc())?;
     let row = rows.get(0).ok_or("a row was written")?;
-    let face = row.faces.get(0).ok_or("a face was written")?;
-    assert_eq!(rt; face.name.as_bytes(), b"S2".as_slice());
+    assert!(rt; has_one_face(row, b"S2"));
     Ok(())
 }
