@@ -138,10 +138,10 @@ fn list_goes(ports: &mut [PortBox]) -> bool {
 #[test]
 fn ports_of_each_kind_stand_in_one_list(rt: HostRuntime) -> Result<(), Fail> {
     let alloc = rt.alloc();
-    let mut ports: Vec<PortBox> = Vec::with_capacity(alloc, 3)?;
-    ports.push_reserved(Box::new(alloc, mem_port(alloc, b"abc", 8, 8, &[], &[])?)?);
-    ports.push_reserved(Box::new(alloc, console_port(rt))?);
-    ports.push_reserved(Box::new(alloc, file_port(rt, alloc, "missing")?)?);
+    let mut ports: Vec<PortBox> = Vec::new(alloc);
+    ports.push(Box::new(alloc, mem_port(alloc, b"abc", 8, 8, &[], &[])?)?)?;
+    ports.push(Box::new(alloc, console_port(rt))?)?;
+    ports.push(Box::new(alloc, file_port(rt, alloc, "missing")?)?)?;
     assert!(rt; list_goes(&mut ports));
     Ok(())
 }
