@@ -9,4 +9,4 @@ pub mod series;
 
 pub use delta::{MapDelta, Perturb};
 pub use laws::perturbed_meets;
-pub use perturbed::{perturbed_d, perturbed_f, perturbed_g, perturbed_h};
+pub use perturbed::{perturbed_d, perturbed_f, perturbed_g, perturbed_h, transferred};

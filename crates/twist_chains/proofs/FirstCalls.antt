@@ -22,13 +22,13 @@ abbrev pub p1_on : Option (List ℤ) → Space × Space × ℕ × ℕ × ℕ × 
 p1_on values z = series cell_cmp z.3 z.4 (after (flow_on z.0 z.1 z.2) (turn_on z.0 z.1 values z.2)) z.5
 
 -- they may be asked
-abbrev pub MayS1 : Option (List ℤ) → Space × Space × ℕ × ℕ × ℕ × ℕ × Terms Cell → Type 0
-MayS1 values z =
-    series_may_ask cell_cmp z.4 (flow_on z.0 z.1 z.3) (turn_on z.0 z.1 values z.3) (MayFlow z.0 z.1 z.2) (MayTurn z.0 z.1 values z.2) z.5 z.6
+abbrev pub MayS1 : {I R : Type 0} → (I → Option R) → (Cell → List I) → (Cell → List I) → Option (List ℤ) → Space × Space × ℕ × ℕ × ℕ × ℕ × Terms Cell → Type 0
+MayS1 refusal asks asks' values z =
+    series_may_ask cell_cmp z.4 (flow_on z.0 z.1 z.3) (turn_on z.0 z.1 values z.3) refusal asks asks' (MayFlow z.0 z.1 z.2) (MayTurn z.0 z.1 values z.2) z.5 z.6
 
-abbrev pub MayP1 : Option (List ℤ) → Space × Space × ℕ × ℕ × ℕ × ℕ × Terms Cell → Type 0
-MayP1 values z =
-    series_may_ask cell_cmp z.4 (turn_on z.0 z.1 values z.3) (flow_on z.0 z.1 z.3) (MayTurn z.0 z.1 values z.2) (MayFlow z.0 z.1 z.2) z.5 z.6
+abbrev pub MayP1 : {I R : Type 0} → (I → Option R) → (Cell → List I) → (Cell → List I) → Option (List ℤ) → Space × Space × ℕ × ℕ × ℕ × ℕ × Terms Cell → Type 0
+MayP1 refusal asks asks' values z =
+    series_may_ask cell_cmp z.4 (turn_on z.0 z.1 values z.3) (flow_on z.0 z.1 z.3) refusal asks asks' (MayTurn z.0 z.1 values z.2) (MayFlow z.0 z.1 z.2) z.5 z.6
 
 -- the arguments of a function, and the faces that it makes of them
 module _ (p : ℕ) (pos : 0 < p) (a b : Space) (ka : IsAllowedBuilt a) (kb : IsAllowedBuilt b) (values : Option (List ℤ)) (are : AreTwistValues values a b) (m n : ℕ)
@@ -36,9 +36,9 @@ module _ (p : ℕ) (pos : 0 < p) (a b : Space) (ka : IsAllowedBuilt a) (kb : IsA
   -- ---- pairs
 
   module _ (low : n ≤ 31) (c : Terms Cell) (pairs : Each (IsPairWithin a b m n) c) where
-    pub s1-asked : (p' rank : ℕ) (d : Terms Cell) → p' ≡ p → rank ≡ suc n → d ≡ c → MayS1 values (a', b', most, p, p', rank, d)
-    s1-asked p' rank d e f g =
-        subst (MayS1 values) (λ i. (sym ea i, sym eb i, sym em i, p, sym e i, sym f i, sym g i)) (V.s1-may p pos a b ka kb values are m n low c pairs)
+    pub s1-asked : {I R : Type 0} (refusal : I → Option R) (asks asks' : Cell → List I) → (p' rank : ℕ) (d : Terms Cell) → p' ≡ p → rank ≡ suc n → d ≡ c → MayS1 refusal asks asks' values (a', b', most, p, p', rank, d)
+    s1-asked refusal asks asks' p' rank d e f g =
+        subst (MayS1 refusal asks asks' values) (λ i. (sym ea i, sym eb i, sym em i, p, sym e i, sym f i, sym g i)) (V.s1-may p pos a b ka kb values are m n low c pairs refusal asks asks')
 
     s1-same : (p' rank : ℕ) (d sum : Terms Cell) → p' ≡ p → rank ≡ suc n → d ≡ c → sum ≡ s1_on values (a', b', p, p', rank, d) → sum ≡ s1_on values (a, b, p, p, suc n, c)
     s1-same p' rank d sum e f g h = h ∙ ap (s1_on values) (λ i. (ea i, eb i, p, e i, f i, g i))
@@ -63,10 +63,10 @@ module _ (p : ℕ) (pos : 0 < p) (a b : Space) (ka : IsAllowedBuilt a) (kb : IsA
     flow-same : (p1 : ℕ) (d : Terms Cell) → p1 ≡ p → d ≡ apply cell_cmp p1 (flow_on a' b' p) c → d ≡ apply cell_cmp p (flow_on a b p) c
     flow-same p1 d e h = h ∙ (λ i. apply cell_cmp (e i) (flow_on (ea i) (eb i) p) c)
 
-    pub homotopy-asked : (p1 p' rank : ℕ) (d : Terms Cell) → p1 ≡ p → d ≡ apply cell_cmp p1 (flow_on a' b' p) c → p' ≡ p → rank ≡ suc (suc n)
-        → MayP1 values (a', b', most, p, p', rank, d)
-    homotopy-asked p1 p' rank d e1 h e f =
-        subst (MayP1 values) (λ i. (sym ea i, sym eb i, sym em i, p, sym e i, sym f i, sym (flow-same p1 d e1 h) i)) (V.homotopy-may p pos a b ka kb values are m n low c pairs)
+    pub homotopy-asked : {I R : Type 0} (refusal : I → Option R) (asks asks' : Cell → List I) → (p1 p' rank : ℕ) (d : Terms Cell) → p1 ≡ p → d ≡ apply cell_cmp p1 (flow_on a' b' p) c → p' ≡ p → rank ≡ suc (suc n)
+        → MayP1 refusal asks asks' values (a', b', most, p, p', rank, d)
+    homotopy-asked refusal asks asks' p1 p' rank d e1 h e f =
+        subst (MayP1 refusal asks asks' values) (λ i. (sym ea i, sym eb i, sym em i, p, sym e i, sym f i, sym (flow-same p1 d e1 h) i)) (V.homotopy-may p pos a b ka kb values are m n low c pairs refusal asks asks')
 
     pub homotopy-told : (p1 p' rank : ℕ) (d r : Terms Cell) → p1 ≡ p → d ≡ apply cell_cmp p1 (flow_on a' b' p) c → p' ≡ p → rank ≡ suc (suc n)
         → r ≡ p1_on values (a', b', p, p', rank, d) → r ≡ homotopy_of a b values p n c
@@ -86,10 +86,10 @@ module _ (p : ℕ) (pos : 0 < p) (a b : Space) (ka : IsAllowedBuilt a) (kb : IsA
     shuffle-same : (p1 : ℕ) (d : Terms Cell) → p1 ≡ p → d ≡ apply cell_cmp p1 (shuffle_on a' b' p) c → d ≡ apply cell_cmp p (shuffle_on a b p) c
     shuffle-same p1 d e h = h ∙ (λ i. apply cell_cmp (e i) (shuffle_on (ea i) (eb i) p) c)
 
-    pub p1-asked : (p1 p' rank : ℕ) (d : Terms Cell) → p1 ≡ p → d ≡ apply cell_cmp p1 (shuffle_on a' b' p) c → p' ≡ p → rank ≡ suc n
-        → MayP1 values (a', b', most, p, p', rank, d)
-    p1-asked p1 p' rank d e1 h e f =
-        subst (MayP1 values) (λ i. (sym ea i, sym eb i, sym em i, p, sym e i, sym f i, sym (shuffle-same p1 d e1 h) i)) (V.p1-may p pos a b ka kb values are m n low c tensors)
+    pub p1-asked : {I R : Type 0} (refusal : I → Option R) (asks asks' : Cell → List I) → (p1 p' rank : ℕ) (d : Terms Cell) → p1 ≡ p → d ≡ apply cell_cmp p1 (shuffle_on a' b' p) c → p' ≡ p → rank ≡ suc n
+        → MayP1 refusal asks asks' values (a', b', most, p, p', rank, d)
+    p1-asked refusal asks asks' p1 p' rank d e1 h e f =
+        subst (MayP1 refusal asks asks' values) (λ i. (sym ea i, sym eb i, sym em i, p, sym e i, sym f i, sym (shuffle-same p1 d e1 h) i)) (V.p1-may p pos a b ka kb values are m n low c tensors refusal asks asks')
 
     pub lifted-told : (p1 p' rank : ℕ) (d r : Terms Cell) → p1 ≡ p → d ≡ apply cell_cmp p1 (shuffle_on a' b' p) c → p' ≡ p → rank ≡ suc n
         → r ≡ p1_on values (a', b', p, p', rank, d) → r ≡ lifted_of a b values p n c

@@ -208,12 +208,12 @@ module _ (p : ℕ) (pos : 0 < p) (a b : Space) (ka : IsAllowedBuilt a) (kb : IsA
             S.s1-each p pos (linear (ordered a)) (set_of a).In (ordered b) (IsReached a) (λ s. form s a) (quote a) (IsReached b) (λ s. form s b) (quote b) (parts-within p pos a b ka kb)
             (reach_wider a) (reach_wider b) q (growth values) most (twisted most) ends k x l terms rooms
 
-        pub s1-may : series_may_ask cell_cmp p flow_code twist_code (MayFlow a b most)
+        pub s1-may : {I R : Type 0} (refusal : I → Option R) (asks asks' : Cell → List I) → series_may_ask cell_cmp p flow_code twist_code refusal asks asks' (MayFlow a b most)
             (MayTurn a b values most) terms (quote_pairs a b x)
-        s1-may =
+        s1-may refusal asks asks' =
             S.s1-asks p pos (linear (ordered a)) (set_of a).In (ordered b) (IsReached a) (λ s. form s a) (quote a) (IsReached b) (λ s. form s b) (quote b) (parts-within p pos a b ka kb)
             (reach_wider a) (reach_wider b) q (growth values) most (twisted most) ends k x l terms rooms
-            (MayFlow a b most) (MayTurn a b values most)
+            refusal asks asks' (MayFlow a b most) (MayTurn a b values most)
             (λ s h. (k, pair-is most k s h, l)) (λ s h. (are, (suc k, pair-is most (suc k) s h, l)))
 
       module _ (l : k ≤ 32) where
@@ -228,12 +228,12 @@ module _ (p : ℕ) (pos : 0 < p) (a b : Space) (ka : IsAllowedBuilt a) (kb : IsA
             S.p1-each p pos (linear (ordered a)) (set_of a).In (ordered b) (IsReached a) (λ s. form s a) (quote a) (IsReached b) (λ s. form s b) (quote b) (parts-within p pos a b ka kb)
             (reach_wider a) (reach_wider b) q (growth values) most (twisted most) ends k x l terms rooms
 
-        pub p1-may : series_may_ask cell_cmp p twist_code flow_code (MayTurn a b values most)
+        pub p1-may : {I R : Type 0} (refusal : I → Option R) (asks asks' : Cell → List I) → series_may_ask cell_cmp p twist_code flow_code refusal asks asks' (MayTurn a b values most)
             (MayFlow a b most) terms (quote_pairs a b x)
-        p1-may =
+        p1-may refusal asks asks' =
             S.p1-asks p pos (linear (ordered a)) (set_of a).In (ordered b) (IsReached a) (λ s. form s a) (quote a) (IsReached b) (λ s. form s b) (quote b) (parts-within p pos a b ka kb)
             (reach_wider a) (reach_wider b) q (growth values) most (twisted most) ends k x l terms rooms
-            (MayTurn a b values most) (MayFlow a b most)
+            refusal asks asks' (MayTurn a b values most) (MayFlow a b most)
             (λ s h. (are, (k, pair-is most k s h, l))) (λ s h. below k l s h)
           where
             below : (i : ℕ) → i ≤ 32 → (s : Pair (Plain a) (Plain b))

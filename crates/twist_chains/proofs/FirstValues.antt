@@ -45,10 +45,10 @@ module _ (p : ℕ) (pos : 0 < p) (a b : Space) (ka : IsAllowedBuilt a) (kb : IsA
     few : m + suc n * growth values ≤ most
     few = F.fits p pos a b ka kb values are m n (suc n) (omega arith)
 
-    pub s1-may : series_may_ask cell_cmp p (flow_on a b p) (turn_on a b values p) (MayFlow a b most) (MayTurn a b values most) (suc n) c
-    s1-may =
-        subst (series_may_ask cell_cmp p (flow_on a b p) (turn_on a b values p) (MayFlow a b most) (MayTurn a b values most) (suc n)) back
-        (F.s1-may p pos a b ka kb values are m most n (suc n) few x x-keys (omega (arith, low)))
+    pub s1-may : {I R : Type 0} (refusal : I → Option R) (asks asks' : Cell → List I) → series_may_ask cell_cmp p (flow_on a b p) (turn_on a b values p) refusal asks asks' (MayFlow a b most) (MayTurn a b values most) (suc n) c
+    s1-may refusal asks asks' =
+        subst (series_may_ask cell_cmp p (flow_on a b p) (turn_on a b values p) refusal asks asks' (MayFlow a b most) (MayTurn a b values most) (suc n)) back
+        (F.s1-may p pos a b ka kb values are m most n (suc n) few x x-keys (omega (arith, low)) refusal asks asks')
 
     abbrev summed : Terms (Pair (Plain a) (Plain b))
     summed = series order p (suc n) (after q k) x
@@ -91,10 +91,10 @@ module _ (p : ℕ) (pos : 0 < p) (a b : Space) (ka : IsAllowedBuilt a) (kb : IsA
         subst (Each (MayFlow a b most)) back
         (F.flows-may p pos a b ka kb most n (omega (arith, low)) x (F.widened-pairs p pos a b ka kb m most n (omega arith) x x-keys))
 
-    pub homotopy-may : series_may_ask cell_cmp p (turn_on a b values p) (flow_on a b p) (MayTurn a b values most) (MayFlow a b most) (suc (suc n)) (apply cell_cmp p (flow_on a b p) c)
-    homotopy-may =
-        subst (series_may_ask cell_cmp p (turn_on a b values p) (flow_on a b p) (MayTurn a b values most) (MayFlow a b most) (suc (suc n))) (sym raised-code)
-        (F.p1-may p pos a b ka kb values are m most (suc n) (suc (suc n)) all-few raised raised-keys (omega (arith, low)))
+    pub homotopy-may : {I R : Type 0} (refusal : I → Option R) (asks asks' : Cell → List I) → series_may_ask cell_cmp p (turn_on a b values p) (flow_on a b p) refusal asks asks' (MayTurn a b values most) (MayFlow a b most) (suc (suc n)) (apply cell_cmp p (flow_on a b p) c)
+    homotopy-may refusal asks asks' =
+        subst (series_may_ask cell_cmp p (turn_on a b values p) (flow_on a b p) refusal asks asks' (MayTurn a b values most) (MayFlow a b most) (suc (suc n))) (sym raised-code)
+        (F.p1-may p pos a b ka kb values are m most (suc n) (suc (suc n)) all-few raised raised-keys (omega (arith, low)) refusal asks asks')
 
     pub homotopy-are : series cell_cmp p (suc (suc n)) (after (flow_on a b p) (turn_on a b values p)) (apply cell_cmp p (flow_on a b p) c) ≡ homotopy_of a b values p n c
     homotopy-are =
@@ -133,10 +133,10 @@ module _ (p : ℕ) (pos : 0 < p) (a b : Space) (ka : IsAllowedBuilt a) (kb : IsA
     p1-few : m + suc n * growth values ≤ most
     p1-few = F.fits p pos a b ka kb values are m n (suc n) (omega arith)
 
-    pub p1-may : series_may_ask cell_cmp p (turn_on a b values p) (flow_on a b p) (MayTurn a b values most) (MayFlow a b most) (suc n) (apply cell_cmp p (shuffle_on a b p) c)
-    p1-may =
-        subst (series_may_ask cell_cmp p (turn_on a b values p) (flow_on a b p) (MayTurn a b values most) (MayFlow a b most) (suc n)) (sym shuffled-code)
-        (F.p1-may p pos a b ka kb values are m most n (suc n) p1-few shuffled shuffled-keys low)
+    pub p1-may : {I R : Type 0} (refusal : I → Option R) (asks asks' : Cell → List I) → series_may_ask cell_cmp p (turn_on a b values p) (flow_on a b p) refusal asks asks' (MayTurn a b values most) (MayFlow a b most) (suc n) (apply cell_cmp p (shuffle_on a b p) c)
+    p1-may refusal asks asks' =
+        subst (series_may_ask cell_cmp p (turn_on a b values p) (flow_on a b p) refusal asks asks' (MayTurn a b values most) (MayFlow a b most) (suc n)) (sym shuffled-code)
+        (F.p1-may p pos a b ka kb values are m most n (suc n) p1-few shuffled shuffled-keys low refusal asks asks')
 
     pub lifted-are : series cell_cmp p (suc n) (after (flow_on a b p) (turn_on a b values p)) (apply cell_cmp p (shuffle_on a b p) c) ≡ lifted_of a b values p n c
     lifted-are =

@@ -1,6 +1,6 @@
 -- The series of the first perturbation on pairs of the code. A twist raises how far the integers of a pair reach, each time by no more than
 -- `more`, so that with j steps to come a reach of `most` less j times that is left.
-use Rattle.std.proofs.Common.{◌≡◌, ℕ, zero, suc, ◌+◌, ◌*◌, ◌<◌, ◌≤◌, [], sym, subst, arith}
+use Rattle.std.proofs.Common.{◌≡◌, ℕ, zero, suc, ◌+◌, ◌*◌, ◌<◌, ◌≤◌, List, [], Option, sym, subst, arith}
 use Rattle.fp_field.specs.Chains.{Terms, Each}
 use Rattle.fp_field.specs.Reduction.{after}
 use Rattle.fp_field.specs.Series.{series}
@@ -134,12 +134,12 @@ module _ {K J : Type 0} (p : ℕ) (pos : 0 < p) (L : Linear K) (In : ℕ → K �
             each-so (series (pair_order p L R) p terms (after q (flow p L R)) c) (room-all n 0)
             (series-each cell (pair_order p L R) cell_cmp p (Room n) (room-less n) (rooms-keep n 0) (after q (flow p L R)) (after (code q) k') (λ j. qk n j l) terms c e)
 
-        pub s1-asks : (may_flow may_twist : Cell → Type 0) → ((s : Pair K J) → PairKey most n s → may_flow (cell s)) → ((s : Pair K J) → PairKey most (suc n) s → may_twist (cell s))
-            → series_may_ask cell_cmp p k' (code q) may_flow may_twist terms (on_keys cell c)
-        s1-asks may_flow may_twist f g =
+        pub s1-asks : {I R : Type 0} (refusal : I → Option R) (asks asks' : Cell → List I) → (may_flow may_twist : Cell → Type 0) → ((s : Pair K J) → PairKey most n s → may_flow (cell s)) → ((s : Pair K J) → PairKey most (suc n) s → may_twist (cell s))
+            → series_may_ask cell_cmp p k' (code q) refusal asks asks' may_flow may_twist terms (on_keys cell c)
+        s1-asks refusal asks asks' may_flow may_twist f g =
             series-asked cell (pair_order p L R) cell_cmp p (Room n) (room-less n) (rooms-keep n 0) (flow p L R) k' q (code q) (λ j. Room (suc n) j)
             (λ j. flow-room n (suc j) l) (λ j. twist-below (suc n) j l) (λ j. rooms-keep (suc n) (suc j)) may_flow may_twist
-            (λ j s h. f s (room-all n j s h)) (λ j s h. g s (room-all (suc n) j s h)) terms c e
+            (λ j s h. f s (room-all n j s h)) (λ j s h. g s (room-all (suc n) j s h)) refusal asks asks' terms c e
 
       -- ---- the series of 1 + k q
 
@@ -152,9 +152,9 @@ module _ {K J : Type 0} (p : ℕ) (pos : 0 < p) (L : Linear K) (In : ℕ → K �
             each-so (series (pair_order p L R) p terms (after (flow p L R) q) c) (room-all n 0)
             (series-each cell (pair_order p L R) cell_cmp p (Room n) (room-less n) (rooms-keep n 0) (after (flow p L R) q) (after k' (code q)) (λ j. kq n j l) terms c e)
 
-        pub p1-asks : (may_twist may_flow : Cell → Type 0) → ((s : Pair K J) → PairKey most n s → may_twist (cell s)) → ((s : Pair K J) → Below n 0 s → may_flow (cell s))
-            → series_may_ask cell_cmp p (code q) k' may_twist may_flow terms (on_keys cell c)
-        p1-asks may_twist may_flow f g =
+        pub p1-asks : {I R : Type 0} (refusal : I → Option R) (asks asks' : Cell → List I) → (may_twist may_flow : Cell → Type 0) → ((s : Pair K J) → PairKey most n s → may_twist (cell s)) → ((s : Pair K J) → Below n 0 s → may_flow (cell s))
+            → series_may_ask cell_cmp p (code q) k' refusal asks asks' may_twist may_flow terms (on_keys cell c)
+        p1-asks refusal asks asks' may_twist may_flow f g =
             series-asked cell (pair_order p L R) cell_cmp p (Room n) (room-less n) (rooms-keep n 0) q (code q) (flow p L R) k' (Mid n)
             (λ j. twist-below n j l) (λ j. flow-below n j l) (λ j. below-keep n j) may_twist may_flow
-            (λ j s h. f s (room-all n j s h)) (λ j s h. g s (mid-all n j s h)) terms c e
+            (λ j s h. f s (room-all n j s h)) (λ j s h. g s (mid-all n j s h)) refusal asks asks' terms c e

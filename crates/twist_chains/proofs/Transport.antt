@@ -1,5 +1,5 @@
 -- A map of keys that keeps their order carries the image of a chain under a map, its normal form, and the series of a map.
-use Rattle.std.proofs.Common.{◌≡◌, ℕ, zero, suc, ◌-◌, ◌*◌, [], ◌∷◌, ◌++◌, refl, sym, ◌∙◌, ap, subst}
+use Rattle.std.proofs.Common.{◌≡◌, ℕ, zero, suc, ◌-◌, ◌*◌, List, [], ◌∷◌, ◌++◌, Option, refl, sym, ◌∙◌, ap, subst}
 use Rattle.std.specs.declared.cmp.Ordering.{Ordering}
 use Rattle.fp_field.specs.Chains.{Terms, Each, scale, extend}
 use Rattle.fp_field.specs.Normal.{normal, apply}
@@ -111,16 +111,16 @@ module _ {A B : Type 0} (q : A → B) (cmp : A → A → Ordering) (cmp' : B →
   steps : (j : ℕ) → Carries (P (suc j)) (P j) q q (after g f) (after g' f')
   steps j = after-carried (P (suc j)) (M (suc j)) (P j) q q q f f' g g' (first j) (second j)
 
-  pub series-asked : (n : ℕ) (c : Terms A) → Each (P n) c → series_may_ask cmp' p f' g' may_first may_second n (on_keys q c)
-  series-asked zero c e = tt
-  series-asked (suc n) c e =
+  pub series-asked : {I R : Type 0} (refusal : I → Option R) (asks asks' : B → List I) (n : ℕ) (c : Terms A) → Each (P n) c → series_may_ask cmp' p f' g' refusal asks asks' may_first may_second n (on_keys q c)
+  series-asked refusal asks asks' zero c e = tt
+  series-asked refusal asks asks' (suc n) c e =
       let d : Terms A = normal cmp p (scale (p - 1) (extend (after g f) c)) in (
         each-keys may_first q c (each-so c (first_may (suc n)) e),
         (
-          subst (Each may_second) (sym (apply-carried (P (suc n)) (M (suc n)) q q f f' (first n) p cmp cmp' (between n) c e))
+          λ granted. subst (Each may_second) (sym (apply-carried (P (suc n)) (M (suc n)) q q f f' (first n) p cmp cmp' (between n) c e))
               (each-keys may_second q (apply cmp p f c)
               (each-so (apply cmp p f c) (second_may (suc n)) (apply-each (P (suc n)) (M (suc n)) q q f f' (first n) p cmp cmp' c e))),
-          subst (series_may_ask cmp' p f' g' may_first may_second n) (sym (next-carried q cmp cmp' p P weaker keeps (after g f) (after g' f') steps n c e))
-              (series-asked n d (next-each q cmp cmp' p P weaker keeps (after g f) (after g' f') steps n c e)),
+          λ granted. subst (series_may_ask cmp' p f' g' refusal asks asks' may_first may_second n) (sym (next-carried q cmp cmp' p P weaker keeps (after g f) (after g' f') steps n c e))
+              (series-asked refusal asks asks' n d (next-each q cmp cmp' p P weaker keeps (after g f) (after g' f') steps n c e)),
         ),
       )

@@ -7,7 +7,8 @@ use Rattle.fp_field.specs.Series.{terms_of_series}
 use Rattle.fp_field.specs.Reduction.{after}
 use Rattle.chain_core.specs.Formal.{numbers}
 use Rattle.reduct_laws.proofs.AskSteps.{asked_exit}
-use Rattle.perturb.specs.PerturbedLists.{next_term, series_may_ask}
+use Rattle.chain_core.specs.Asks.{NoneRefused, asks_along}
+use Rattle.perturb.specs.PerturbedLists.{next_term, step_asks, series_may_ask}
 use Rattle.perturb.proofs.SeriesSteps.{front_none, front_part, front_all, may_opened, terms_more, asks_left, summed_at_end, step_may, step_until, step_all}
 use Rattle.perturb.proofs.series.series.Goals.{then-loop-left-test+else-not-is_empty, else-loop-left-test}
 use Rattle.perturb.proofs.series.series.Goals as goal
@@ -24,13 +25,14 @@ loop-left-init g c = record {
 pub step-requires-clause-keys : goal.step-requires-clause-keys
 step-requires-clause-keys g c =
     (may_opened g.K.Ord.cmp (number c.args.start.prime) (g.A.LinearMap.image_of c.args.first.now) (g.B.LinearMap.image_of c.args.second.now)
-    (g.A.LinearMap.may_be_asked c.args.first.now) (g.B.LinearMap.may_be_asked c.args.second.now) c.loop-left.left c.loop-left.term.terms c.loop-left-test.true c.loop-left.invariant.keys).0
+    g.S.Source.refusal (g.A.LinearMap.asks c.args.first.now) (g.B.LinearMap.asks c.args.second.now) (g.A.LinearMap.may_be_asked c.args.first.now) (g.B.LinearMap.may_be_asked c.args.second.now) c.loop-left.left c.loop-left.term.terms c.loop-left-test.true c.loop-left.invariant.keys).0
 
 pub step-requires-clause-images : goal.step-requires-clause-images
 step-requires-clause-images g c =
-    subst (λ r. Each (g.B.LinearMap.may_be_asked c.args.second.now) (apply g.K.Ord.cmp (number r) (g.A.LinearMap.image_of c.args.first.now) c.loop-left.term.terms)) (sym c.loop-left.invariant.prime)
+    subst (λ r. NoneRefused g.S.Source.refusal (asks_along (g.A.LinearMap.asks c.args.first.now) c.loop-left.term.terms)
+    → Each (g.B.LinearMap.may_be_asked c.args.second.now) (apply g.K.Ord.cmp (number r) (g.A.LinearMap.image_of c.args.first.now) c.loop-left.term.terms)) (sym c.loop-left.invariant.prime)
     (may_opened g.K.Ord.cmp (number c.args.start.prime) (g.A.LinearMap.image_of c.args.first.now) (g.B.LinearMap.image_of c.args.second.now)
-    (g.A.LinearMap.may_be_asked c.args.first.now) (g.B.LinearMap.may_be_asked c.args.second.now) c.loop-left.left c.loop-left.term.terms c.loop-left-test.true c.loop-left.invariant.keys).1.0
+    g.S.Source.refusal (g.A.LinearMap.asks c.args.first.now) (g.B.LinearMap.asks c.args.second.now) (g.A.LinearMap.may_be_asked c.args.first.now) (g.B.LinearMap.may_be_asked c.args.second.now) c.loop-left.left c.loop-left.term.terms c.loop-left-test.true c.loop-left.invariant.keys).1.0
 
 pub step-requires-clause-source : goal.step-requires-clause-source
 step-requires-clause-source g c =
@@ -66,10 +68,12 @@ loop-left-preserved g c = record {
   elements = subst (λ r. All (λ t. t.1.value < number r) c.collect.new.terms.items) c.loop-left.invariant.prime c.in_ok-collect.ensures.elements;
   keys =
       subst (λ d. series_may_ask g.K.Ord.cmp (number c.args.start.prime) (g.A.LinearMap.image_of c.args.first.now) (g.B.LinearMap.image_of c.args.second.now)
-      (g.A.LinearMap.may_be_asked c.args.first.now) (g.B.LinearMap.may_be_asked c.args.second.now) (c.loop-left.left - 1) d)
+      g.S.Source.refusal (g.A.LinearMap.asks c.args.first.now) (g.B.LinearMap.asks c.args.second.now) (g.A.LinearMap.may_be_asked c.args.first.now) (g.B.LinearMap.may_be_asked c.args.second.now) (c.loop-left.left - 1) d)
       (sym (c.in_ok-next.ensures.value ∙ ap (λ r. next_term g.K.Ord.cmp (number r) (g.A.LinearMap.image_of c.args.first.now) (g.B.LinearMap.image_of c.args.second.now) c.loop-left.term.terms) c.loop-left.invariant.prime))
-      (may_opened g.K.Ord.cmp (number c.args.start.prime) (g.A.LinearMap.image_of c.args.first.now) (g.B.LinearMap.image_of c.args.second.now)
-      (g.A.LinearMap.may_be_asked c.args.first.now) (g.B.LinearMap.may_be_asked c.args.second.now) c.loop-left.left c.loop-left.term.terms c.loop-left-test.true c.loop-left.invariant.keys).1.1;
+      ((may_opened g.K.Ord.cmp (number c.args.start.prime) (g.A.LinearMap.image_of c.args.first.now) (g.B.LinearMap.image_of c.args.second.now)
+      g.S.Source.refusal (g.A.LinearMap.asks c.args.first.now) (g.B.LinearMap.asks c.args.second.now) (g.A.LinearMap.may_be_asked c.args.first.now) (g.B.LinearMap.may_be_asked c.args.second.now) c.loop-left.left c.loop-left.term.terms c.loop-left-test.true c.loop-left.invariant.keys).1.1
+      (subst (λ r. NoneRefused g.S.Source.refusal (step_asks g.K.Ord.cmp (number r) (g.A.LinearMap.image_of c.args.first.now) (g.B.LinearMap.image_of c.args.second.now) (g.A.LinearMap.asks c.args.first.now) (g.B.LinearMap.asks c.args.second.now) c.loop-left.term.terms))
+      c.loop-left.invariant.prime c.in_ok-next.ensures.source.granted));
   sum =
       terms_more g.K.Ord.cmp (number c.args.start.prime) (g.A.LinearMap.image_of c.args.first.now) (g.B.LinearMap.image_of c.args.second.now)
       (numbers c.loop-left.terms.items) (numbers c.collect.new.terms.items) c.loop-left.term.terms c.in_ok-next.next.terms _ c.loop-left.left c.loop-left-test.true c.in_ok-collect.ensures.sum

@@ -1,10 +1,11 @@
-use Rattle.std.proofs.Common.{◌≡◌, ◌+◌, ◌∙◌, ap, arith}
+use Rattle.std.proofs.Common.{◌≡◌, ◌+◌, [], ◌∙◌, ap, arith}
 use Rattle.std.specs.Option.{option_copied}
 use Rattle.std.proofs.lemmas.Result.{IfOk-weaker}
 use Rattle.fp_field.specs.Field.{number}
 use Rattle.fp_field.proofs.Primes.{number_pos}
 use Rattle.chain_core.specs.Formal.{Formal}
 use Rattle.cells.specs.declared.cells.Cell.{Cell}
+use Rattle.chain_core.specs.contracts.maps.UnitSource as unit
 use Rattle.term_lang.specs.SpaceOf.{space_of}
 use Rattle.twist_chains.proofs.FirstCalls as F
 use Rattle.twist_chains.proofs.first.to_tensors.Goals as goal
@@ -13,7 +14,7 @@ pub series-requires-clause-keys : goal.series-requires-clause-keys
 series-requires-clause-keys c =
     let is : c.in_ok-clone.field-0 ≡ c.args.c.now = c.in_ok-clone.ensures.cases (λ x y e. e) in
     let e = ap (λ (d : Formal Cell). d.prime) is ∙ c.requires.prime in
-    F.s1-asked (number c.args.f.now.p) (number_pos c.args.f.now.p) (space_of c.args.f.now.pair.left.term.now) (space_of c.args.f.now.pair.right.term.now) c.args.f.now.pair.left.allowed c.args.f.now.pair.right.allowed (option_copied c.args.f.now.values) c.requires.values c.args.f.now.pair.most c.args.n (space_of c.widened-pair.result.left.term.now) (space_of c.widened-pair.result.right.term.now) c.widened-pair.result.most (ap space_of c.widened-pair.ensures.left) (ap space_of c.widened-pair.ensures.right) c.widened-pair.ensures.most c.requires.degree c.args.c.now.terms c.requires.pairs (number c.in_ok-clone.field-0.prime) (c.args.n + 1) c.in_ok-clone.field-0.terms (ap number e) (omega arith) (ap (λ (d : Formal Cell). d.terms) is)
+    F.s1-asked (number c.args.f.now.p) (number_pos c.args.f.now.p) (space_of c.args.f.now.pair.left.term.now) (space_of c.args.f.now.pair.right.term.now) c.args.f.now.pair.left.allowed c.args.f.now.pair.right.allowed (option_copied c.args.f.now.values) c.requires.values c.args.f.now.pair.most c.args.n (space_of c.widened-pair.result.left.term.now) (space_of c.widened-pair.result.right.term.now) c.widened-pair.result.most (ap space_of c.widened-pair.ensures.left) (ap space_of c.widened-pair.ensures.right) c.widened-pair.ensures.most c.requires.degree c.args.c.now.terms c.requires.pairs unit.TheImpl.ghosts.refusal (λ x. []) (λ x. []) (number c.in_ok-clone.field-0.prime) (c.args.n + 1) c.in_ok-clone.field-0.terms (ap number e) (omega arith) (ap (λ (d : Formal Cell). d.terms) is)
 
 pub apply-requires-clause-keys : goal.apply-requires-clause-keys
 apply-requires-clause-keys c =
