@@ -1,10 +1,10 @@
 -- Worked values of words, lines and statuses.
-use Rattle.std.proofs.Common.{◌≡◌, ℕ, List, [], ◌∷◌, true, false, refl}
+use Rattle.std.proofs.Common.{◌≡◌, [], ◌∷◌, true, false, refl}
 use Rattle.std.specs.Fmt.{digits}
 use Rattle.std.specs.Prelude.{codes}
+use Rattle.kernel_run.specs.Pieces.{closed_lines, open_line, lines_closed}
 use Rattle.kernel_run.specs.Words.{is_session, is_batch, has_form, code_of_all}
 use Rattle.kernel_run.specs.Summary.{summary}
-use Rattle.kernel_run.specs.declared.report.SessionReport.{SessionReport}
 use Rattle.kernel_run.specs.declared.report.End.TheVariants.{Finished, Long, ReadFault, Memory}
 
 one_session : is_session (codes "session" ∷ []) ≡ true
@@ -38,3 +38,13 @@ fault_before_length = refl
 
 memory_before_fault : code_of_all (ReadFault ∷ Memory ∷ []) ≡ 5
 memory_before_fault = refl
+
+lines_of_a_piece : closed_lines (codes "ab") (codes "c\n\nd") ≡ codes "abc" ∷ [] ∷ []
+lines_of_a_piece = refl
+
+open_behind_a_piece : open_line (codes "ab") (codes "c\n\nd") ≡ codes "d"
+open_behind_a_piece = refl
+
+-- the names are asked for three times, in pieces of 8 bytes
+lines_of_pieces : lines_closed [] (codes "(names)\n" ∷ codes "(names)\n" ∷ codes "(names" ∷ codes ")\n" ∷ []) ≡ codes "(names)" ∷ codes "(names)" ∷ codes "(names)" ∷ []
+lines_of_pieces = refl

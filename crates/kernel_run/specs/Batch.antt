@@ -7,12 +7,12 @@
 -- Main definitions: `SessionOver`, `EachSession`, `Batch`, `BatchOver`.
 -- Worked value: a batch of the words a and b, whose ports have "(names)\n" and "(field 4)\n" and no fault, writes "names\n" and
 -- "error field 4\n" to them and "a: 1 replies, 0 errors, ok\nb: 1 replies, 1 errors, ok\n" to the console, with status 0.
-use Rattle.std.specs.Prelude.{◌≡◌, ◌≢◌, ◌⊎◌, ℕ, ◌≤◌, ◌<◌, List, [], ◌∷◌, map, drop, IfSome}
+use Rattle.std.specs.Prelude.{◌≡◌, ◌≢◌, ◌⊎◌, ℕ, ◌≤◌, List, [], ◌∷◌, map, drop, IfSome}
 use Rattle.std.specs.Io.KnownBytes.{append_known, IsAtEnd}
 use Rattle.port_io.specs.Ports.{PortState, Rose, raised}
 use Rattle.kernel_run.specs.Fresh.{fresh}
 use Rattle.kernel_run.specs.Kernel.{HasFault}
-use Rattle.kernel_run.specs.Outcome.{Outcome, HasLengthFor}
+use Rattle.kernel_run.specs.Outcome.{Outcome, HasLengthFor, AnswersRead, ReadsTooMuch}
 use Rattle.kernel_run.specs.Progress.{WritesBy}
 use Rattle.kernel_run.specs.Session.{ReadsNothing}
 use Rattle.kernel_run.specs.Summary.{summary}
@@ -31,6 +31,9 @@ pub record SessionOver (before after : PortState) (report : SessionReport) : Typ
   pub homology : IfSome before.left AreHomologyLists
   pub size : IfSome before.left (λ input. HasLengthFor report.end input)
   pub at_end : report.end ≡ Finished → IsAtEnd after.left
+  -- after a read fault the replies to the lines whose line feed was read, and of a script that is too long one byte more than it may have
+  pub answered : report.end ≡ ReadFault → AnswersRead before after
+  pub too_much : report.end ≡ Long → ReadsTooMuch before after
   pub read_fault : report.end ≡ ReadFault → Rose before.read_faults after.read_faults
   pub no_read_fault : report.end ≢ ReadFault → after.read_faults ≡ before.read_faults
   pub write_fault : report.end ≡ WriteFault → Rose before.write_faults after.write_faults

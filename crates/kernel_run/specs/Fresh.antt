@@ -31,6 +31,11 @@ reply_to s line = (answer_bytes s line).0
 abbrev pub state_after : State → List ℕ → State
 state_after s line = (answer_bytes s line).1
 
+-- the names and the field after lines, the first of which finds this state
+abbrev pub state_from : State → List (List ℕ) → State
+state_from s [] = s
+state_from s (line ∷ lines) = state_from (state_after s line) lines
+
 -- the replies to lines, the first of which finds this state
 abbrev pub replies_from : State → List (List ℕ) → List Reply
 replies_from s [] = []

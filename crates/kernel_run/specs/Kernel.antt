@@ -10,6 +10,7 @@ use Rattle.std.specs.Prelude.{◌≡◌, ◌⊎◌, ℕ, ◌≤◌, ◌<◌, Lis
 use Rattle.std.specs.Io.KnownBytes.{append_known, IsAtEnd}
 use Rattle.port_io.specs.Ports.{PortState, Rose, raised}
 use Rattle.kernel_run.specs.Fresh.{fresh}
+use Rattle.kernel_run.specs.Outcome.{AnswersRead, ReadsTooMuch}
 use Rattle.kernel_run.specs.Truth.{AreHomologyLists}
 use Rattle.kernel_run.specs.Session.{ReadsNothing}
 use Rattle.kernel_run.specs.Words.{usage, is_batch}
@@ -18,13 +19,15 @@ use Rattle.kernel_run.specs.Words.{usage, is_batch}
 abbrev pub HasFault : PortState → PortState → Type 0
 HasFault before after = Rose before.read_faults after.read_faults ⊎ Rose before.write_faults after.write_faults
 
--- where all is told, what a fresh kernel writes for the input, whole at the statuses 0 and 4 and else a front of it
+-- where all is told, what a fresh kernel writes for the input, whole at the statuses 0 and 4 and else a front of it, which is not all after a
+-- write fault
 pub record WritesFresh (input : List ℕ) (before after : PortState) (code : ℕ) : Type 0 where
   pub wrote : List ℕ
   pub written : after.written ≡ append_known before.written wrote
   pub not_written : List ℕ
   pub front : fresh input ≡ wrote ++ not_written
   pub whole : (code ≡ 0) ⊎ (code ≡ 4) → fresh input ≡ wrote
+  pub less : code ≡ 3 → (Rose before.read_faults after.read_faults → ⊥) → 0 < length not_written
   pub long : code ≡ 4 → 16777216 < length input
   pub short : code ≡ 0 → length input ≤ 16777216
 
@@ -34,8 +37,11 @@ pub record OneSession (before after : PortState) (code : ℕ) : Type 0 where
   pub output : IfSome before.left (λ input. WritesFresh input before after code)
   pub homology : IfSome before.left AreHomologyLists
   pub fault : code ≡ 3 → HasFault before after
+  -- after a read fault the replies to the lines whose line feed was read
+  pub answered : code ≡ 3 → (Rose before.write_faults after.write_faults → ⊥) → AnswersRead before after
   pub no_fault : (code ≡ 0) ⊎ (code ≡ 4) → (after.read_faults ≡ before.read_faults) × (after.write_faults ≡ before.write_faults)
   pub long : code ≡ 4 → raised before.bytes_read 16777217 ≤ after.bytes_read
+  pub too_much : code ≡ 4 → ReadsTooMuch before after
   pub short : code ≡ 0 → after.bytes_read ≤ raised before.bytes_read 16777216
   pub ended : code ≡ 0 → Rose before.empty_reads after.empty_reads
   pub at_end : code ≡ 0 → IsAtEnd after.left

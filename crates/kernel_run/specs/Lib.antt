@@ -6,6 +6,7 @@ pub mod Jobs
 pub mod Kernel
 pub mod Lines
 pub mod Outcome
+pub mod Pieces
 pub mod Progress
 pub mod Session
 pub mod Settled

@@ -1,23 +1,27 @@
 -- What a session does to its port.
-use Rattle.std.specs.Prelude.{◌≡◌, ℕ, ◌<◌, List, ◌++◌, length, take}
-use Rattle.std.specs.Io.KnownBytes.{prepend_known, append_known}
+use Rattle.std.specs.Prelude.{◌≡◌, ℕ, ◌<◌, List, length, take}
+use Rattle.std.specs.Io.KnownBytes.{prepend_known, append_known, IsAtEnd}
 use Rattle.port_io.specs.Ports.{PortState, raised, Rose}
-use Rattle.kernel_run.specs.declared.report.End.{End}
-use Rattle.kernel_run.specs.declared.report.End.TheVariants.{ReadFault, Memory}
 
--- a script grew by what was read
-pub record ReadsOn (before after : PortState) (old new : List ℕ) : Type 0 where
-  pub got : List ℕ
-  pub grown : new ≡ old ++ got
+-- these bytes were read, and no read answered that there are no more
+pub record ReadsBytes (before after : PortState) (got : List ℕ) : Type 0 where
   pub left : before.left ≡ prepend_known got after.left
   pub bytes_read : after.bytes_read ≡ raised before.bytes_read (length got)
-  pub read_faults : after.read_faults ≡ before.read_faults
+  pub empty_reads : after.empty_reads ≡ before.empty_reads
 
--- why a read ended
-abbrev pub ReadStops : PortState → PortState → End → Type 0
-ReadStops before after ReadFault = Rose before.read_faults after.read_faults
-ReadStops before after Memory = after.read_faults ≡ before.read_faults
-ReadStops before after _ = ⊥
+-- a read answered that there are no more bytes
+pub record ReadsEnd (before after : PortState) : Type 0 where
+  pub left : after.left ≡ before.left
+  pub bytes_read : after.bytes_read ≡ before.bytes_read
+  pub empty_reads : Rose before.empty_reads after.empty_reads
+  pub at_end : IsAtEnd after.left
+
+-- a read failed
+pub record ReadFails (before after : PortState) : Type 0 where
+  pub left : after.left ≡ before.left
+  pub bytes_read : after.bytes_read ≡ before.bytes_read
+  pub empty_reads : after.empty_reads ≡ before.empty_reads
+  pub read_faults : Rose before.read_faults after.read_faults
 
 -- the side of the writes as before
 pub record WritesNothing (before after : PortState) : Type 0 where

@@ -1,16 +1,19 @@
 //! The kernel's top call: it runs what the words of the command line ask for, over the ports that it is handed.
 //!
-//! A session reads its script whole, and then answers it line by line. Values are kept in a table of results: one that is published there
-//! is taken from it, and every other one comes from its rule, and is published unless another session holds it or the table is full. What
-//! the rule needs is had in the same way.
+//! A session reads its script piece by piece, and answers each line as soon as its line feed was read. Values are kept in a table of
+//! results: one that is published there is taken from it, and every other one comes from its rule, and is published unless another session
+//! holds it or the table is full. What the rule needs is had in the same way.
 #![tactic(auto)]
 
+mod answers;
 mod batch;
 mod by_engine;
+mod input;
 mod jobs;
 mod kernel;
 mod lines;
-mod read;
+mod open_line;
+mod pieces;
 mod report;
 mod session;
 mod shared_book;

@@ -1,5 +1,4 @@
-use Rattle.std.proofs.Common.{◌++◌, ap, sym, ◌∙◌, arith, rules}
-use Rattle.kernel_run.specs.Jobs.{ports_of}
+use Rattle.std.proofs.Common.{◌++◌, ap, sym, rules}
 use Rattle.kernel_run.proofs.Moving.{ports_again}
 use Rattle.kernel_run.proofs.jobs.give_ports.Goals as goal
 

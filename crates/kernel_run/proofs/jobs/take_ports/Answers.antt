@@ -1,4 +1,4 @@
-use Rattle.std.proofs.Common.{◌≡◌, length, arith, rules}
+use Rattle.std.proofs.Common.{◌≡◌, length, rules}
 use Rattle.kernel_run.proofs.Moving.{taken_ports, taken_jobs}
 use Rattle.kernel_run.proofs.jobs.take_ports.Goals as goal
 

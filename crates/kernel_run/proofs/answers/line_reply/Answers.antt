@@ -1,5 +1,5 @@
 use Rattle.kernel_run.proofs.Forced.{may_after, keeps_run, reply_settled}
-use Rattle.kernel_run.proofs.session.line_reply.Goals as goal
+use Rattle.kernel_run.proofs.answers.line_reply.Goals as goal
 
 pub feed_line-requires : goal.feed_line-requires
 feed_line-requires g c = record {
