@@ -5,11 +5,15 @@
 --
 --   after one call of `seat` the first pass has seat 0 and made 2, and the other has seat 1 and the fronts that the first had
 use Rattle.std.specs.Prelude.{◌≡◌, ℕ, ◌+◌, List, [], slice_get, Option, Some, None}
+use Rattle.std.specs.Coded.{Coded-set}
+use Rattle.std.proofs.Props.{props}
+use Rattle.oracle_iface.specs.contracts.entries.Entry as entry
 use Rattle.oracle_iface.specs.declared.entries.Entry.{Entry}
 use Rattle.turnstile.specs.declared.counted.Counted.{Ghosts}
 use Rattle.turnstile.specs.declared.pass.Pass.{Pass}
 use Rattle.turnstile.specs.declared.pass.Turnstile.{Turnstile}
 use Rattle.turnstile.specs.Passes.{front, number, made, IsOutside, IsPassOf}
+use Rattle.memo_shared.specs.contracts.shard.Shard as shard
 use Rattle.memo_shared.specs.contracts.shard.ShardCounted.TheImpl as counted
 use Rattle.memo_shared.specs.declared.shard.Shard.{Shard}
 use Rattle.memo_shared.specs.declared.memo.SharedMemo.{SharedMemo}
@@ -63,6 +67,10 @@ fronts_of p shard = front_or (part_at p shard)
 -- the pass is one of the table, outside of each of its shards
 pub record IsOf (m : SharedMemo) (p : MemoPass) : Type 0 where
   pub each : AtEach (IsPart p.seat p.made) m.shards.items p.parts.items
+
+-- this is a fact, with no more than one proof
+pub is_of_prop : (m : SharedMemo) (p : MemoPass) → IsProp (IsOf m p)
+is_of_prop m p = hlevel (props, Coded-set (shard.the_row.coded), Coded-set (entry.the_row.coded))
 
 -- the same seat, and as many passes made
 abbrev pub IsSame : MemoPass → MemoPass → Type 0

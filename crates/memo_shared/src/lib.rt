@@ -3,12 +3,14 @@
 #![tactic(auto)]
 
 mod calls;
+mod desk;
 mod making;
 mod memo;
 mod parts;
 mod places;
 mod shard;
 
+pub use desk::{Desk, Loan};
 pub use making::shared_memo;
 pub use memo::{MemoPass, SharedMemo};
 pub use places::shard_of;
