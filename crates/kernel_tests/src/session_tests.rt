@@ -77,8 +77,27 @@ error term bad-sphere 0
 error syntax
 ~";
 
-// Which read and which write fails, and what is printed before.
-const FAULTS: [(u64, u64, &str); 3] = [(3, 0, ""), (0, 1, ""), (0, 2, "names\n")];
+// Which read and which write fails, what is printed of a script of three lines that comes line by line, and the status.
+const FAULTS: [(u64, u64, &str, u8); 6] = [
+    (1, 0, "", 3),
+    (2, 0, "names\n", 3),
+    (4, 0, "names\nnames\nnames\n", 3),
+    (0, 1, "", 3),
+    (0, 2, "names\n", 3),
+    (0, 0, "names\nnames\nnames\n", 0),
+];
+
+// How a script begins, how many bytes it has with those that fill it up, what is printed, and the status.
+const LONG_SCRIPTS: [(&str, usize, &str, u8); 3] = [
+    (
+        "(names)\n",
+        16_777_217,
+        "names\nerror over script 16777217\n",
+        4,
+    ),
+    (";", 16_777_217, "error over script 16777217\n", 4),
+    (";", 16_777_216, "error syntax\n", 0),
+];
 
 // Whether a session ends well and prints what is wanted for what is typed.
 fn prints<R: Threads + Wait + Sync>(
@@ -118,30 +137,38 @@ fn first_wrong<'a, R: Threads + Wait + Sync>(
     }
 }
 
-// Whether a session with a call that fails ends with status 3.
+// Whether a session with a call that may fail prints this and ends with this status.
 fn is_cut_off<R: Threads + Wait + Sync>(
     rt: &R,
     alloc: Global,
     bad_read: u64,
     bad_write: u64,
     printed: &str,
+    code: u8,
 ) -> Result<bool, AllocError> {
     let console = Side {
-        input: b"(names)\n(names)\n(homology (sphere 1) 1)\n",
+        input: b"(names)\n(names)\n(names)\n",
         bad_read,
         bad_write,
         output: printed.as_bytes(),
     };
-    ends_with(rt, alloc, "session", &[console], 16, 3)
+    ends_with(rt, alloc, "session", &[console], 8, code)
 }
 
-// Whether a script of a byte more than 16,777,216 ends with status 4.
-fn is_too_long<R: Threads + Wait + Sync>(rt: &R, alloc: Global) -> Result<bool, AllocError> {
+// Whether a script that begins so and is filled up with semicolons prints this and ends with this status.
+fn ends_long<R: Threads + Wait + Sync>(
+    rt: &R,
+    alloc: Global,
+    start: &str,
+    bytes: usize,
+    printed: &str,
+    code: u8,
+) -> Result<bool, AllocError> {
     let mut input = Vec::new(alloc);
-    input.extend_from_slice(b"(names)\n")?;
-    input.resize(16_777_217, b' ')?;
-    let console = well(&input, b"names\nerror over script 16777217\n");
-    ends_with(rt, alloc, "session", &[console], 4096, 4)
+    input.extend_from_slice(start.as_bytes())?;
+    input.resize(bytes, b';')?;
+    let console = well(&input, printed.as_bytes());
+    ends_with(rt, alloc, "session", &[console], 4096, code)
 }
 
 #[test]
@@ -160,11 +187,21 @@ fn examples_and_transcripts(rt: HostRuntime) -> Result<(), Fail> {
 }
 
 #[test]
-fn faults_and_a_long_script(rt: HostRuntime) -> Result<(), Fail> {
-    for (bad_read, bad_write, printed) in FAULTS {
-        let is_right = is_cut_off(&rt, rt.alloc(), bad_read, bad_write, printed)?;
+fn failing_calls(rt: HostRuntime) -> Result<(), Fail> {
+    for (bad_read, bad_write, printed, code) in FAULTS {
+        let is_right = is_cut_off(&rt, rt.alloc(), bad_read, bad_write, printed, code)?;
         assert!(rt; is_right, "at read {bad_read}, write {bad_write}");
     }
-    assert!(rt; is_too_long(&rt, rt.alloc())?, "at a long script");
+    Ok(())
+}
+
+#[test]
+fn long_scripts(rt: HostRuntime) -> Result<(), Fail> {
+    for (start, bytes, printed, code) in LONG_SCRIPTS {
+        assert!(rt;
+            ends_long(&rt, rt.alloc(), start, bytes, printed, code)?,
+            "at {bytes} bytes"
+        );
+    }
     Ok(())
 }
