@@ -1,7 +1,8 @@
 // A port, and the boxed one.
-ghost use Rattle.std.specs.Prelude.{◌≡◌, ◌<◌, ◌≤◌, IfOk, length, List, ℕ};
+ghost use Rattle.std.specs.Prelude.{◌≡◌, ◌<◌, ◌≤◌, IfOk, length, List, ℕ, Option, None};
 ghost use Rattle.std.specs.Option.{option_copied};
 ghost use Rattle.std.specs.Io.{ReadsAtMost, WritesAtMost};
+ghost use Rattle.port_io.specs.Streams.{PortFiles};
 ghost use Rattle.port_io.specs.Ports.{PortState, Takes, Puts, EndsAt, CountsBytes, CountsEmpty, CountsFaults};
 
 /// A read or a write that failed. The port has counted it, and no byte moved.
@@ -12,6 +13,9 @@ pub struct PortFault;
 pub trait Port: Drop {
     /// The bytes of both sides, where they are told, and the counts.
     ghost state: { Self → PortState };
+
+    /// The file that it reads and the one that it writes.
+    ghost files: { Self → Option PortFiles } = { λ _. None };
 
     /// The output so far, exactly where it is told.
     fn output(&self) -> Option<&[u8]>
@@ -28,7 +32,8 @@ pub trait Port: Drop {
         ensures empty_reads { CountsEmpty (state self.old).empty_reads (state self.new).empty_reads result }
         ensures read_faults { CountsFaults (state self.old).read_faults (state self.new).read_faults result }
         ensures written { (state self.new).written ≡ (state self.old).written }
-        ensures write_faults { (state self.new).write_faults ≡ (state self.old).write_faults };
+        ensures write_faults { (state self.new).write_faults ≡ (state self.old).write_faults }
+        ensures files { files self.new ≡ files self.old };
 
     /// Appends the first bytes of `bytes` to the output, and answers how many, at least one unless there are none. A
     /// fault comes only where the count of write faults rises.
@@ -40,7 +45,8 @@ pub trait Port: Drop {
         ensures left { (state self.new).left ≡ (state self.old).left }
         ensures read_faults { (state self.new).read_faults ≡ (state self.old).read_faults }
         ensures bytes_read { (state self.new).bytes_read ≡ (state self.old).bytes_read }
-        ensures empty_reads { (state self.new).empty_reads ≡ (state self.old).empty_reads };
+        ensures empty_reads { (state self.new).empty_reads ≡ (state self.old).empty_reads }
+        ensures files { files self.new ≡ files self.old };
 }
 
 /// A port of any kind.
@@ -48,6 +54,8 @@ pub type PortBox = Box<dyn Port + Send>;
 
 impl Port for PortBox {
     ghost state = { λ b. (Port-box b).state b.value };
+
+    ghost files = { λ b. (Port-box b).files b.value };
 
     fn output(&self) -> Option<&[u8]> {
         (**self).output()

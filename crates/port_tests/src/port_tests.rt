@@ -98,7 +98,7 @@ fn script_goes<R: Files + Alloc + Copy + Drop>(rt: R, alloc: Global) -> bool {
     }
 }
 
-fn absent_goes<R: Files + Drop>(rt: R, alloc: Global) -> bool {
+fn absent_goes<R: Files + Copy + Drop>(rt: R, alloc: Global) -> bool {
     match file_port(rt, alloc, "absent") {
         Ok(mut port) => reads(&mut port, FAULT),
         Err(_) => false,
