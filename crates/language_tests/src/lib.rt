@@ -9,7 +9,7 @@ mod line_tests;
 #[cfg(test)]
 mod line_texts;
 #[cfg(test)]
-mod named_spaces;
+mod written_spaces;
 #[cfg(test)]
 mod reply_tests;
 #[cfg(test)]

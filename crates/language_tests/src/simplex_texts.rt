@@ -4,7 +4,7 @@ ghost use Rattle.spaces.specs.Allowed.{IsAllowed};
 ghost use Rattle.term_lang.specs.SpaceOf.{space_of};
 ghost use Rattle.normal_forms.specs.Built.{IsBuilt};
 
-use crate::named_spaces::term_of;
+use crate::written_spaces::term_of;
 use cells::{Cell, Simplex};
 use script_lang::{ChainText, Command, ResolveFault, SimplexText, read_line, resolve};
 use std::alloc::{AllocError, Global};

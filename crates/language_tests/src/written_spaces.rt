@@ -31,6 +31,7 @@ pub(crate) fn term_of(alloc: Global, e: &Expr) -> Option<Term>
     }
 }
 
+#[tactic(auto, using(crate::proofs::Terms::suspension_is))]
 fn suspension_of(alloc: Global, part: Term) -> Option<Term>
     requires { IsBuilt (space_of part) }
     ensures { IfSome result (λ t. IsBuilt (space_of t)) }
@@ -39,6 +40,7 @@ fn suspension_of(alloc: Global, part: Term) -> Option<Term>
     Some(Term::Suspension(part))
 }
 
+#[tactic(auto, using(crate::proofs::Terms::product_is))]
 fn product_of(alloc: Global, left: Term, right: Term) -> Option<Term>
     requires left { IsBuilt (space_of left) }
     requires right { IsBuilt (space_of right) }
@@ -50,6 +52,7 @@ fn product_of(alloc: Global, left: Term, right: Term) -> Option<Term>
 }
 
 // The bundle over a sphere, with these values on the cells after its vertex.
+#[tactic(auto, using(crate::proofs::Terms::bundle_is))]
 fn bundle_of(alloc: Global, base: &Expr, pairs: &PairTextList) -> Option<Term>
     ensures { IfSome result (λ t. IsBuilt (space_of t)) }
 {
