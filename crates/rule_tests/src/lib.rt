@@ -1,10 +1,12 @@
-//! Tests of the rules, from outside: what a session leaves in a table of results of its own, key by key, and the limits that no line reaches.
+//! Tests of the rules, from outside: what keys come to, while the lines of a session ask for them.
 #![tactic(auto)]
 
 #[cfg(test)]
-mod limit_tests;
+mod answers;
 #[cfg(test)]
-mod tables;
+mod past_keys;
+#[cfg(test)]
+mod published;
 #[cfg(test)]
 mod texts;
 #[cfg(test)]

@@ -1,146 +1,218 @@
-// What each kind of key comes to by its rule: a script, and behind an empty line lines of the table that it leaves, as `texts` writes them. One
-// that begins with `no ` is a beginning that no line of the table has.
-use crate::tables::table_of;
-use std::alloc::Global;
-use std::process::Abort;
+// What keys come to, and in which order they are published.
+use crate::answers::{published_at, transcript};
+use crate::past_keys::{homotopy_past, suspended_past};
+use std::test::Fail;
 
-// The cell of a sphere, and no cycles above it.
-const SPHERES: &str = "(field 3)
-(homology (sphere 2) 2)
-(homology (sphere 2) 4)
+// The cell of a sphere is its one small cell in its degree, G there is the cell itself, and above it nothing is listed.
+const SPHERE: &str = "> (field 3)
+> (homology (sphere 2) 2)
+Basis Degree(2) of sphere over Three => Cells([One(Top(2))])
+SmallD Small(One(Top(2))) of sphere over Three => Small(Three [])
+Basis Degree(3) of sphere over Three => Cells([])
+G Small(One(Top(2))) of sphere over Three => Big(Three [(Top(2), 1)])
+Cycles Degree(2) of sphere over Three => Many([Three [(Top(2), 1)]])
+> (homology (sphere 2) 4)
+Basis Degree(4) of sphere over Three => Cells([])
+Basis Degree(5) of sphere over Three => Cells([])
+Cycles Degree(4) of sphere over Three => Many([])
+";
 
-Basis 2 of S2 over Three => S2
-SmallD S2 of S2 over Three =>
-G S2 of S2 over Three => 1 S2
-Cycles 2 of S2 over Three => cycle 1 S2
-Basis 4 of S2 over Three =>
-Cycles 4 of S2 over Three =>
-no G S2 of S2 over Two";
+// The boundary of the triangle t is twice the edge e.
+const PROJECTIVE_PLANE: &str = "> (setf rp2 (table (v) (e v v) (t e 0:v e)))
+> (field 3)
+> (homology rp2 1)
+Basis Degree(1) of table over Three => Cells([One(Row(1, 1))])
+SmallD Small(One(Row(1, 1))) of table over Three => Small(Three [])
+Basis Degree(2) of table over Three => Cells([One(Row(2, 2))])
+SmallD Small(One(Row(2, 2))) of table over Three => Small(Three [(One(Row(1, 1)), 2)])
+Cycles Degree(1) of table over Three => Many([])
+> (field 2)
+> (homology rp2 2)
+Basis Degree(2) of table over Two => Cells([One(Row(2, 2))])
+SmallD Small(One(Row(2, 2))) of table over Two => Small(Two [])
+Basis Degree(3) of table over Two => Cells([])
+G Small(One(Row(2, 2))) of table over Two => Big(Two [(Row(2, 2), 1)])
+Cycles Degree(2) of table over Two => Many([Two [(Row(2, 2), 1)]])
+";
 
-// The projective plane: a vertex, an edge and a triangle, the edge twice in its boundary.
-const PLANE: &str = "(setf rp2 (table (v) (e v v) (t e 0:v e)))
-(betti rp2 0 2)
-(field 3)
-(betti rp2 0 2)
+// Edges a from u to v, b from u to w, c from w to t, and d from v to w: the cycle a - b + d has the coefficients 1, 2, 0, 1.
+const EDGES: &str = "> (field 3)
+> (homology (table (u) (v) (w) (t) (a v u) (b w u) (c t w) (d w v)) 1)
+Basis Degree(1) of table over Three => Cells([One(Row(1, 4)), One(Row(1, 5)), One(Row(1, 6)), One(Row(1, 7))])
+SmallD Small(One(Row(1, 4))) of table over Three => Small(Three [(One(Row(0, 0)), 2), (One(Row(0, 1)), 1)])
+SmallD Small(One(Row(1, 5))) of table over Three => Small(Three [(One(Row(0, 0)), 2), (One(Row(0, 2)), 1)])
+SmallD Small(One(Row(1, 6))) of table over Three => Small(Three [(One(Row(0, 2)), 2), (One(Row(0, 3)), 1)])
+SmallD Small(One(Row(1, 7))) of table over Three => Small(Three [(One(Row(0, 1)), 2), (One(Row(0, 2)), 1)])
+Basis Degree(2) of table over Three => Cells([])
+G Small(One(Row(1, 4))) of table over Three => Big(Three [(Row(1, 4), 1)])
+G Small(One(Row(1, 5))) of table over Three => Big(Three [(Row(1, 5), 1)])
+G Small(One(Row(1, 7))) of table over Three => Big(Three [(Row(1, 7), 1)])
+Cycles Degree(1) of table over Three => Many([Three [(Row(1, 4), 1), (Row(1, 5), 2), (Row(1, 7), 1)]])
+";
 
-Basis 0 of table over Three => r0
-Basis 1 of table over Three => r1
-Basis 2 of table over Three => r2
-Basis 3 of table over Three =>
-SmallD r1 of table over Three =>
-SmallD r2 of table over Three => 2 r1
-SmallD r2 of table over Two =>
-no Cycles";
+// The boundary of t has the coefficients 0 and 2 at the loops a and b, so that only a is listed.
+const LOOPS: &str = "> (field 3)
+> (homology (table (v) (a v v) (b v v) (t b 0:v b)) 1)
+Basis Degree(1) of table over Three => Cells([One(Row(1, 1)), One(Row(1, 2))])
+SmallD Small(One(Row(1, 1))) of table over Three => Small(Three [])
+SmallD Small(One(Row(1, 2))) of table over Three => Small(Three [])
+Basis Degree(2) of table over Three => Cells([One(Row(2, 3))])
+SmallD Small(One(Row(2, 3))) of table over Three => Small(Three [(One(Row(1, 2)), 2)])
+G Small(One(Row(1, 1))) of table over Three => Big(Three [(Row(1, 1), 1)])
+Cycles Degree(1) of table over Three => Many([Three [(Row(1, 1), 1)]])
+";
 
-// Three edges between two points: vectors (1, 0, 2) and (0, 1, 2), whose entries that are 0 give no term.
-const EDGES: &str = "(field 3)
-(homology (table (v) (w) (a v w) (b v w) (c v w)) 1)
+// H of |5| is minus |1|1| to |1|4|, that of |-2| is |1|-2| and |1|-1|, and F of |a| is a times the edge. The circle has two small cells.
+const INTEGERS: &str = "> (field 7)
+> (express (k-z-1) 1 (1 |5|))
+Basis Degree(1) of K(Z,1) over Seven => Cells([One(Ints([1]))])
+SmallD Small(One(Ints([1]))) of K(Z,1) over Seven => Small(Seven [])
+Basis Degree(2) of K(Z,1) over Seven => Cells([])
+G Small(One(Ints([1]))) of K(Z,1) over Seven => Big(Seven [(Ints([1]), 1)])
+Cycles Degree(1) of K(Z,1) over Seven => Many([Seven [(Ints([1]), 1)]])
+F Big(Ints([5])) of K(Z,1) over Seven => Small(Seven [(One(Ints([1])), 5)])
+H Big(Ints([5])) of K(Z,1) over Seven => Big(Seven [(Ints([1, 1]), 6), (Ints([1, 2]), 6), (Ints([1, 3]), 6), (Ints([1, 4]), 6)])
+> (express (k-z-1) 1 (1 |-2|))
+F Big(Ints([-2])) of K(Z,1) over Seven => Small(Seven [(One(Ints([1])), 5)])
+H Big(Ints([-2])) of K(Z,1) over Seven => Big(Seven [(Ints([1, -2]), 1), (Ints([1, -1]), 1)])
+> (express (k-z-1) 1 (1 |3|))
+F Big(Ints([3])) of K(Z,1) over Seven => Small(Seven [(One(Ints([1])), 3)])
+H Big(Ints([3])) of K(Z,1) over Seven => Big(Seven [(Ints([1, 1]), 6), (Ints([1, 2]), 6)])
+> (field 5)
+> (homology (k-z-1) 0)
+Basis Degree(0) of K(Z,1) over Five => Cells([One(Ints([]))])
+SmallD Small(One(Ints([]))) of K(Z,1) over Five => Small(Five [])
+Basis Degree(1) of K(Z,1) over Five => Cells([One(Ints([1]))])
+SmallD Small(One(Ints([1]))) of K(Z,1) over Five => Small(Five [])
+G Small(One(Ints([]))) of K(Z,1) over Five => Big(Five [(Ints([]), 1)])
+Cycles Degree(0) of K(Z,1) over Five => Many([Five [(Ints([]), 1)]])
+> (express (k-z-1) 1 (1 |-3|))
+Basis Degree(2) of K(Z,1) over Five => Cells([])
+G Small(One(Ints([1]))) of K(Z,1) over Five => Big(Five [(Ints([1]), 1)])
+Cycles Degree(1) of K(Z,1) over Five => Many([Five [(Ints([1]), 1)]])
+F Big(Ints([-3])) of K(Z,1) over Five => Small(Five [(One(Ints([1])), 2)])
+H Big(Ints([-3])) of K(Z,1) over Five => Big(Five [(Ints([1, -3]), 1), (Ints([1, -2]), 1), (Ints([1, -1]), 1)])
+";
 
-SmallD r2 of table over Three => 1 r0 2 r1
-G r3 of table over Three => 1 r3
-Cycles 1 of table over Three => cycle 1 r2 2 r4 cycle 1 r3 2 r4
-no Cycles 0";
+// H of |60000| would have 59,999 terms.
+const TERMS: &str = "> (express (k-z-1) 1 (1 |60000|))
+Basis Degree(1) of K(Z,1) over Two => Cells([One(Ints([1]))])
+SmallD Small(One(Ints([1]))) of K(Z,1) over Two => Small(Two [])
+Basis Degree(2) of K(Z,1) over Two => Cells([])
+G Small(One(Ints([1]))) of K(Z,1) over Two => Big(Two [(Ints([1]), 1)])
+Cycles Degree(1) of K(Z,1) over Two => Many([Two [(Ints([1]), 1)]])
+F Big(Ints([60000])) of K(Z,1) over Two => Small(Two [])
+H Big(Ints([60000])) of K(Z,1) over Two => H Big(Ints([60000])) is over Terms 59999
+";
 
-// Two loops, of which twice the second bounds: boundaries lead at the second place, and cycles that are 0 there are listed.
-const LOOPS: &str = "(field 3)
-(homology (table (v) (a v v) (b v v) (t b 0:v b)) 1)
+// What a suspension asks of its part: in degree 3 for what is in degree 2, in degree 1 and at the base point for nothing.
+const SUSPENDED_SPHERE: &str = "> (field 3)
+> (homology (suspension (sphere 2)) 3)
+Basis Degree(2) of sphere over Three => Cells([One(Top(2))])
+Basis Degree(3) of suspension over Three => Cells([Up(One(Top(2)))])
+SmallD Small(One(Top(2))) of sphere over Three => Small(Three [])
+SmallD Small(Up(One(Top(2)))) of suspension over Three => Small(Three [])
+Basis Degree(3) of sphere over Three => Cells([])
+Basis Degree(4) of suspension over Three => Cells([])
+G Small(One(Top(2))) of sphere over Three => Big(Three [(Top(2), 1)])
+G Small(Up(One(Top(2)))) of suspension over Three => Big(Three [(Up(Top(2)), 1)])
+Cycles Degree(3) of suspension over Three => Many([Three [(Up(Top(2)), 1)]])
+> (express (suspension (sphere 2)) 0 (1 *))
+Basis Degree(0) of suspension over Three => Cells([One(Base)])
+SmallD Small(One(Base)) of suspension over Three => Small(Three [])
+Basis Degree(1) of suspension over Three => Cells([])
+G Small(One(Base)) of suspension over Three => Big(Three [(Base, 1)])
+Cycles Degree(0) of suspension over Three => Many([Three [(Base, 1)]])
+F Big(Base) of suspension over Three => Small(Three [(One(Base), 1)])
+H Big(Base) of suspension over Three => Big(Three [])
+";
 
-SmallD r3 of table over Three => 2 r2
-Cycles 1 of table over Three => cycle 1 r1";
+// The small differential over 2 e is minus 2 Up(e).
+const SUSPENDED_PLANE: &str = "> (setf rp2 (table (v) (e v v) (t e 0:v e)))
+> (field 3)
+> (homology (suspension rp2) 2)
+Basis Degree(1) of table over Three => Cells([One(Row(1, 1))])
+Basis Degree(2) of suspension over Three => Cells([Up(One(Row(1, 1)))])
+SmallD Small(One(Row(1, 1))) of table over Three => Small(Three [])
+SmallD Small(Up(One(Row(1, 1)))) of suspension over Three => Small(Three [])
+Basis Degree(2) of table over Three => Cells([One(Row(2, 2))])
+Basis Degree(3) of suspension over Three => Cells([Up(One(Row(2, 2)))])
+SmallD Small(One(Row(2, 2))) of table over Three => Small(Three [(One(Row(1, 1)), 2)])
+SmallD Small(Up(One(Row(2, 2)))) of suspension over Three => Small(Three [(Up(One(Row(1, 1))), 1)])
+Cycles Degree(2) of suspension over Three => Many([])
+";
 
-// The circle in K(Z,1): multiples of the edge, and the homotopy from a list of one integer to that multiple.
-const INTEGERS: &str = "(betti (k-z-1) 0 1)
-(express (k-z-1) 1 (1 |60000|))
-(field 7)
-(express (k-z-1) 1 (1 |5|))
-(express (k-z-1) 1 (1 |-2|))
-(express (k-z-1) 1 (1 |3|))
-(field 5)
-(express (k-z-1) 1 (1 |-3|))
+// F over |2| is 2 Up(|1|), and H over minus |1|1| minus |1|2| is their sum, with the opposite sign.
+const SUSPENDED_INTEGERS: &str = "> (field 3)
+> (express (suspension (k-z-1)) 2 (1 ^|3|))
+Basis Degree(1) of K(Z,1) over Three => Cells([One(Ints([1]))])
+Basis Degree(2) of suspension over Three => Cells([Up(One(Ints([1])))])
+SmallD Small(One(Ints([1]))) of K(Z,1) over Three => Small(Three [])
+SmallD Small(Up(One(Ints([1])))) of suspension over Three => Small(Three [])
+Basis Degree(2) of K(Z,1) over Three => Cells([])
+Basis Degree(3) of suspension over Three => Cells([])
+G Small(One(Ints([1]))) of K(Z,1) over Three => Big(Three [(Ints([1]), 1)])
+G Small(Up(One(Ints([1])))) of suspension over Three => Big(Three [(Up(Ints([1])), 1)])
+Cycles Degree(2) of suspension over Three => Many([Three [(Up(Ints([1])), 1)]])
+F Big(Ints([3])) of K(Z,1) over Three => Small(Three [])
+F Big(Up(Ints([3]))) of suspension over Three => Small(Three [])
+H Big(Ints([3])) of K(Z,1) over Three => Big(Three [(Ints([1, 1]), 2), (Ints([1, 2]), 2)])
+H Big(Up(Ints([3]))) of suspension over Three => Big(Three [(Up(Ints([1, 1])), 1), (Up(Ints([1, 2])), 1)])
+> (express (suspension (k-z-1)) 2 (1 ^|2|))
+F Big(Ints([2])) of K(Z,1) over Three => Small(Three [(One(Ints([1])), 2)])
+F Big(Up(Ints([2]))) of suspension over Three => Small(Three [(Up(One(Ints([1]))), 2)])
+H Big(Ints([2])) of K(Z,1) over Three => Big(Three [(Ints([1, 1]), 2)])
+H Big(Up(Ints([2]))) of suspension over Three => Big(Three [(Up(Ints([1, 1])), 1)])
+> (field 5)
+> (express (suspension (k-z-1)) 2 (1 ^|3|))
+Basis Degree(1) of K(Z,1) over Five => Cells([One(Ints([1]))])
+Basis Degree(2) of suspension over Five => Cells([Up(One(Ints([1])))])
+SmallD Small(One(Ints([1]))) of K(Z,1) over Five => Small(Five [])
+SmallD Small(Up(One(Ints([1])))) of suspension over Five => Small(Five [])
+Basis Degree(2) of K(Z,1) over Five => Cells([])
+Basis Degree(3) of suspension over Five => Cells([])
+G Small(One(Ints([1]))) of K(Z,1) over Five => Big(Five [(Ints([1]), 1)])
+G Small(Up(One(Ints([1])))) of suspension over Five => Big(Five [(Up(Ints([1])), 1)])
+Cycles Degree(2) of suspension over Five => Many([Five [(Up(Ints([1])), 1)]])
+F Big(Ints([3])) of K(Z,1) over Five => Small(Five [(One(Ints([1])), 3)])
+F Big(Up(Ints([3]))) of suspension over Five => Small(Five [(Up(One(Ints([1]))), 3)])
+H Big(Ints([3])) of K(Z,1) over Five => Big(Five [(Ints([1, 1]), 4), (Ints([1, 2]), 4)])
+H Big(Up(Ints([3]))) of suspension over Five => Big(Five [(Up(Ints([1, 1])), 1), (Up(Ints([1, 2])), 1)])
+";
 
-Basis 0 of Z over Two => |
-Basis 1 of Z over Two => |1|
-Basis 2 of Z over Two =>
-SmallD |1| of Z over Two =>
-H |60000| of Z over Two => past Terms 59999
-H |5| of Z over Seven => 6 |1|1| 6 |1|2| 6 |1|3| 6 |1|4|
-H |-2| of Z over Seven => 1 |1|-2| 1 |1|-1|
-F |3| of Z over Seven => 3 |1|
-F |-3| of Z over Five => 2 |1|";
+const SESSIONS: [&str; 9] = [
+    SPHERE,
+    PROJECTIVE_PLANE,
+    EDGES,
+    LOOPS,
+    INTEGERS,
+    TERMS,
+    SUSPENDED_SPHERE,
+    SUSPENDED_PLANE,
+    SUSPENDED_INTEGERS,
+];
 
-// Degree 3 of a suspension asks for degree 2 of what is suspended, and degree 1 for nothing.
-const SUSPENDED_DEGREES: &str = "(field 3)
-(betti (suspension (sphere 2)) 1 1)
+const HOMOTOPY_PAST: &str =
+    "H Big(Ints([100001])) of K(Z,1) over Two => H Big(Ints([100001])) is over Integer 100001\n";
 
-Basis 1 of susp S2 over Three =>
-Basis 2 of susp S2 over Three =>
-Basis 1 of S2 over Three =>
-no Basis 0 of S2
-no Basis 2 of S2";
+const SUSPENDED_PAST: &str =
+    "F Big(Up(Ints([-100001]))) of suspension over Three => F Big(Up(Ints([-100001]))) is over Integer 100001\n";
 
-const SUSPENDED_SPHERE: &str = "(field 3)
-(homology (suspension (sphere 2)) 3)
-(express (suspension (sphere 2)) 0 (1 *))
-
-Basis 3 of susp S2 over Three => ^S2
-Basis 2 of S2 over Three => S2
-G ^S2 of susp S2 over Three => 1 ^S2
-Cycles 3 of susp S2 over Three => cycle 1 ^S2
-F * of susp S2 over Three => 1 *
-no F * of S2
-no Cycles 2 of S2";
-
-// The homotopy and the small differential have the opposite sign one degree up, F and G the same.
-const SUSPENDED_MAPS: &str = "(field 3)
-(express (suspension (k-z-1)) 2 (1 ^|3|))
-(express (suspension (k-z-1)) 2 (1 ^|2|))
-(betti (suspension (table (v) (e v v) (t e 0:v e))) 2 2)
-(field 5)
-(express (suspension (k-z-1)) 2 (1 ^|3|))
-
-H |3| of Z over Three => 2 |1|1| 2 |1|2|
-H ^|3| of susp Z over Three => 1 ^|1|1| 1 ^|1|2|
-F |3| of Z over Three =>
-F ^|2| of susp Z over Three => 2 ^|1|
-SmallD r2 of table over Three => 2 r1
-SmallD ^r2 of susp table over Three => 1 ^r1
-F ^|3| of susp Z over Five => 3 ^|1|";
-
-// Whether a line of the table begins so.
-fn has_beginning(table: &str, beginning: &str) -> bool {
-    table.lines().any(|line| line.starts_with(beginning))
-}
-
-// Whether the table is as the line says.
-fn is_met(table: &str, wanted: &str) -> bool {
-    match wanted.strip_prefix("no ") {
-        Some(beginning) => !has_beginning(table, beginning),
-        None => table.lines().any(|line| line == wanted),
+#[test]
+fn sessions_publish_their_keys(rt: HostRuntime) -> Result<(), Fail> {
+    for text in SESSIONS {
+        let found = transcript(rt.alloc(), text)?;
+        assert_eq!(rt; found.as_str(), text);
     }
-}
-
-fn expect(rt: &impl Abort, alloc: Global, case: &str) {
-    let (script, wanted) = case.split_once("\n\n").expect(rt, "a script and lines");
-    let table = table_of(alloc, script)
-        .expect(rt, "memory")
-        .expect(rt, "a session that ends well");
-    for line in wanted.lines() {
-        assert!(rt; is_met(table.as_str(), line), "{line} in {table}");
-    }
+    Ok(())
 }
 
 #[test]
-fn keys_come_to_their_values(rt: HostRuntime) {
-    for case in [
-        SPHERES,
-        PLANE,
-        EDGES,
-        LOOPS,
-        INTEGERS,
-        SUSPENDED_DEGREES,
-        SUSPENDED_SPHERE,
-        SUSPENDED_MAPS,
-    ] {
-        expect(&rt, rt.alloc(), case);
-    }
+fn keys_past_the_limit_on_integers(rt: HostRuntime) -> Result<(), Fail> {
+    let alloc = rt.alloc();
+    let homotopy = published_at(alloc, homotopy_past(alloc)?)?;
+    assert_eq!(rt; homotopy.as_str(), HOMOTOPY_PAST);
+    let suspended = published_at(alloc, suspended_past(alloc)?)?;
+    assert_eq!(rt; suspended.as_str(), SUSPENDED_PAST);
+    Ok(())
 }
