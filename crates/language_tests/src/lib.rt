@@ -9,10 +9,10 @@ mod line_tests;
 #[cfg(test)]
 mod line_texts;
 #[cfg(test)]
-mod written_spaces;
-#[cfg(test)]
 mod reply_tests;
 #[cfg(test)]
 mod simplex_tests;
 #[cfg(test)]
 mod simplex_texts;
+#[cfg(test)]
+mod written_spaces;

@@ -15,7 +15,7 @@ pub(crate) fn term_of(alloc: Global, e: &Expr) -> Option<Term>
     ensures { IfSome result (λ t. IsBuilt (space_of t)) }
 {
     match e {
-        Expr::Sphere(n) => Some(Term::Sphere(*n as u32)),
+        Expr::Sphere(n) => Some(Term::Sphere(u32::try_from(*n).ok()?)),
         Expr::KZ1 => Some(Term::KZ1),
         Expr::Table(rows) => Some(Term::Table(build_table(alloc, rows).ok()?)),
         Expr::Suspension(a) => suspension_of(alloc, term_of(alloc, a.get())?),
