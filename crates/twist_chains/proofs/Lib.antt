@@ -11,3 +11,4 @@ pub mod FirstTerms
 pub mod FirstValues
 pub mod FirstCalls
 pub mod TwistCases
+pub mod Untwisted

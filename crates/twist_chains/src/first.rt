@@ -46,6 +46,10 @@ pub fn to_tensors(
         pair: &pair,
         p: f.p,
     };
+    if f.values.is_none() {
+        let _ = c.terms();
+        return apply(alloc, &mut (), &front, c);
+    }
     let sum = series(alloc, &mut (), &flow, &twist, n as u64 + 1, c.clone()?)?;
     apply(alloc, &mut (), &front, &sum)
 }
@@ -82,6 +86,9 @@ pub fn lifted(
         p: f.p,
     };
     let pairs = apply(alloc, &mut (), &shuffle, c)?;
+    if f.values.is_none() {
+        return Ok(pairs);
+    }
     series(alloc, &mut (), &twist, &flow, n as u64 + 1, pairs)
 }
 
@@ -102,6 +109,9 @@ pub fn difference(
     ensures tensors { IfOk result (λ r. EachKey (IsTensorWithin (space_of f.now.pair.left.term.now) (space_of f.now.pair.right.term.now)
         (room (option_copied f.now.values) n f.now.pair.most) (n - 1)) r.terms) }
 {
+    if f.values.is_none() {
+        return Ok(Chain::new(alloc, f.p));
+    }
     let pair = widened(f, n);
     let flow = FlowMap {
         pair: &pair,
@@ -154,5 +164,8 @@ pub fn first_homotopy(
         p: f.p,
     };
     let raised = apply(alloc, &mut (), &flow, c)?;
+    if f.values.is_none() {
+        return Ok(raised);
+    }
     series(alloc, &mut (), &twist, &flow, n as u64 + 2, raised)
 }
