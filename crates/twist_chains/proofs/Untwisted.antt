@@ -2,14 +2,14 @@
 use Rattle.std.proofs.Common.{◌≡◌, ℕ, zero, suc, ◌-◌, List, [], ◌++◌, ◌∷◌, Option, Some, None, ℤ, refl, sym, ◌∙◌, ap, Bor, false, true≢false}
 use Rattle.std.specs.Option.{is_some, option_copied}
 use Rattle.std.specs.declared.cmp.Ordering.{Ordering}
-use Rattle.fp_field.specs.Chains.{Terms, Each, scale, extend}
+use Rattle.fp_field.specs.Chains.{Terms, scale, extend}
 use Rattle.fp_field.specs.Normal.{normal, apply, IsNormal}
 use Rattle.fp_field.specs.Reduction.{after}
 use Rattle.fp_field.specs.Series.{series, terms_of_series}
 use Rattle.chain_core.proofs.ChainLemmas.{append-nil}
-use Rattle.spaces.specs.Spaces.{Space, Plain}
+use Rattle.spaces.specs.Spaces.{Space}
 use Rattle.spaces.specs.Orders.{ordered}
-use Rattle.spaces.specs.EilenbergZilber.{Pair, linear, aw, pair_order, tensor_order}
+use Rattle.spaces.specs.EilenbergZilber.{linear, aw, pair_order, tensor_order}
 use Rattle.values.specs.Perturbed.{p1, to_pairs}
 use Rattle.values.specs.Rules.{part}
 use Rattle.values.specs.Twists.{untwisted}
@@ -20,7 +20,7 @@ use Rattle.cells.specs.declared.cells.Letter.{Letter}
 use Rattle.cells.specs.declared.cells.Simplex.{Simplex}
 use Rattle.ez_flow.specs.CodeMaps.{terms_in}
 use Rattle.tensor_red.specs.declared.tensors.Tensor.{Tensor}
-use Rattle.twist_chains.specs.Fibred.{flow_on, turn_on, difference_of, quote_tensors, read_tensors, twist_by}
+use Rattle.twist_chains.specs.Fibred.{flow_on, turn_on, difference_of, quote_tensors, read_tensors}
 use Rattle.twist_chains.proofs.FirstCalls.{s1_on, p1_on}
 
 -- ---- no values

@@ -1,4 +1,4 @@
-use Rattle.std.proofs.Common.{not, refl, ◌+◌, [], ◌∙◌, ap, arith}
+use Rattle.std.proofs.Common.{not, ◌+◌, [], ◌∙◌, ap, arith}
 use Rattle.std.specs.Option.{option_copied}
 use Rattle.std.proofs.lemmas.Result.{IfOk-weaker}
 use Rattle.fp_field.specs.Field.{number}
