@@ -4,4 +4,6 @@
 #[cfg(test)]
 mod port_tests;
 #[cfg(test)]
+mod stream_tests;
+#[cfg(test)]
 mod turn_tests;

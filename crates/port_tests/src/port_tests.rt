@@ -38,8 +38,8 @@ fn goes(port: &mut impl Port, call: &str) -> bool {
     }
 }
 
-// The first call that goes otherwise.
-fn wrong<'a>(port: &mut impl Port, calls: &'a str) -> Option<&'a str> {
+/// The first call that goes otherwise.
+pub fn wrong<'a>(port: &mut impl Port, calls: &'a str) -> Option<&'a str> {
     for call in calls.split('|') {
         if !goes(port, call) {
             return Some(call);
