@@ -1,0 +1,3 @@
+pub mod FirstAlong
+pub mod FirstSeries
+pub mod NothingAsked
