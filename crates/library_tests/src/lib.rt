@@ -33,3 +33,5 @@ mod tables;
 mod term_tests;
 #[cfg(test)]
 mod tiny;
+#[cfg(test)]
+mod twice_tests;
