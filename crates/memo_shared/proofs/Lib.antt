@@ -4,3 +4,6 @@ pub mod Told
 pub mod Answered
 pub mod Begun
 pub mod Lifted
+pub mod Among
+pub mod Columns
+pub mod Ends

@@ -1,3 +1,5 @@
 pub mod Shards
 pub mod Answers
 pub mod Shared
+pub mod Whole
+pub mod Dealt

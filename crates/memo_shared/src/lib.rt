@@ -3,14 +3,19 @@
 #![tactic(auto)]
 
 mod calls;
+mod closing;
+mod dealing;
 mod desk;
+mod lists;
 mod making;
 mod memo;
 mod parts;
 mod places;
 mod shard;
 
+pub use closing::MemoCloseRefused;
 pub use desk::{Desk, Loan};
+pub use lists::{Books, MemoPassList};
 pub use making::shared_memo;
 pub use memo::{MemoPass, SharedMemo};
 pub use places::shard_of;

@@ -1,5 +1,5 @@
 // The table and its passes.
-ghost use Rattle.std.specs.Prelude.{◌≡◌, vec_len};
+ghost use Rattle.std.specs.Prelude.{◌≡◌, ◌≤◌, vec_len};
 
 use crate::shard::Shard;
 use turnstile::{Pass, Turnstile};
@@ -19,4 +19,5 @@ pub struct MemoPass {
     pub(crate) made: u32,
     pub(crate) parts: Vec<Pass<Shard>>,
     ghost sized: { vec_len parts ≡ 16 },
+    ghost few: { made ≤ 64 },
 }
