@@ -3,3 +3,4 @@ pub mod Answers
 pub mod Shared
 pub mod Whole
 pub mod Dealt
+pub mod Lent

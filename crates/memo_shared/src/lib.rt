@@ -6,6 +6,7 @@ mod calls;
 mod closing;
 mod dealing;
 mod desk;
+mod lending;
 mod lists;
 mod making;
 mod memo;
