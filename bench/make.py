@@ -14,8 +14,13 @@ usage: bench/make.py KIND NUMBER..
   suspensions N     a table of one vertex and 48 more cells, suspended seven times, and N rounds of questions over three fields
   square A B P      the square of the torus of A times B squares, each cut in two: its Betti numbers in degrees 0 to 4 over F_P
   cube P            the cube of the projective plane: its Betti numbers in degrees 0 to 6, and its cycles, over F_P
+  power M N P       the M-th power of the projective plane times the N-th: its Betti numbers over F_P
+  divided_plane P   the square of the projective plane with six vertices, each triangle cut in six: its Betti numbers over F_P
+  bundle_times_torus A N   a circle bundle over the torus of A times A squares with values up to N, its homology over F_13, and that of its
+                    product with the torus
   torus_bundle A B N   circle bundles over the torus of A times B squares with the value N on one triangle, over three fields
   sphere_bundle N   the circle bundle over the 2-sphere with the value N
+  sphere_bundles N  N circle bundles over the 2-sphere with values from 49,000 downwards, over F_17
   long_chains N     N lines of up to 65,536 bytes, each one chain with thousands of terms that repeat the triangles of a torus
   long_refusals N   N lines of up to 65,536 bytes that are refused at their end
 """
@@ -151,6 +156,48 @@ def cube(prime):
         yield f"(homology cube {n})"
 
 
+def power(left, right, prime):
+    yield table("p1", [["v"], ["e", "v", "v"], ["t", "e", "0:v", "e"]])
+    for k in range(2, max(left, right) + 1):
+        yield f"(setf p{k} (crts-prdc p1 p{k - 1}))"
+    yield f"(setf power (crts-prdc p{left} p{right}))"
+    yield f"(field {prime})"
+    yield f"(betti power 0 {2 * (left + right)})"
+
+
+def divided_plane(prime):
+    triangles = "123 124 135 146 156 236 245 256 345 346".split()
+    faces = sorted({face for triangle in triangles for size in (1, 2, 3) for face in combinations(triangle, size)}, key=lambda face: (len(face), face))
+    chains = {(face,) for face in faces}
+    chains |= {(a, b) for a, b in combinations(faces, 2) if set(a) < set(b)}
+    chains |= {(a, b, c) for a, b, c in combinations(faces, 3) if set(a) < set(b) < set(c)}
+    def name(chain):
+        return "c" + "_".join("".join(face) for face in chain)
+    rows = [[name(chain)] + [name(chain[:i] + chain[i + 1:]) for i in range(len(chain)) if len(chain) > 1] for chain in sorted(chains, key=lambda chain: (len(chain), chain))]
+    yield f"(field {prime})"
+    yield table("plane", rows)
+    yield "(betti (crts-prdc plane plane) 0 4)"
+
+
+def bundle_times_torus(size, most):
+    yield "(field 13)"
+    yield table("torus", grid_torus_rows(size, size))
+    numbers = [(kind, i, j, (7 * i * i + 11 * j + 3 * i * j + (5 if kind == "t" else 0)) % (2 * most) - most) for i in range(size) for j in range(size) for kind in "st"]
+    yield "(setf b (bundle torus " + " ".join(f"({kind}{i}_{j} {number})" for kind, i, j, number in numbers if number) + "))"
+    yield "(betti b 0 3)"
+    for n in (1, 2, 3):
+        yield f"(homology b {n})"
+    yield "(setf c (crts-prdc b torus))"
+    yield "(betti c 0 5)"
+    yield "(homology c 1)"
+
+
+def sphere_bundles(count):
+    yield "(field 17)"
+    for k in range(count):
+        yield f"(betti (bundle (sphere 2) (S2 {49000 - 997 * k})) 0 4)"
+
+
 def torus_bundle(wide, high, value):
     yield table("torus", grid_torus_rows(wide, high))
     yield f"(setf b (bundle torus (s0_0 {value})))"
@@ -201,7 +248,7 @@ def long_refusals(count):
         yield lines[k % len(lines)]
 
 
-KINDS = {kind.__name__: kind for kind in (names, renames, largest_table, grid_torus, graph, solid, homotopy, lists, suspensions, square, cube, torus_bundle, sphere_bundle, long_chains, long_refusals)}
+KINDS = {kind.__name__: kind for kind in (names, renames, largest_table, grid_torus, graph, solid, homotopy, lists, suspensions, square, cube, power, divided_plane, bundle_times_torus, torus_bundle, sphere_bundle, sphere_bundles, long_chains, long_refusals)}
 
 
 def main():
