@@ -1,12 +1,12 @@
 ghost use Rattle.std.specs.Prelude.{◌≡◌, [], ◌∷◌, pos, IfOk};
 ghost use Rattle.cells.specs.declared.cells.Cell.TheVariants.{Row as RowCell};
 
+use crate::texts::push_line;
 use cells::{Cell, IntList, Simplex};
 use finite_sets::sphere_table;
 use seqs::new_seq;
 use simp_ops::Degens;
 use std::alloc::{AllocError, Global};
-use std::test::Fail;
 use twist_maps::{check_cocycle, cocycle_tau};
 
 // The value 0 on the vertex of a sphere and 5 on its cell.
@@ -30,13 +30,22 @@ fn cell_of_the_sphere() -> Simplex
     }
 }
 
-#[test]
-fn five_on_the_2_sphere(rt: HostRuntime) -> Result<(), Fail> {
-    let alloc = rt.alloc();
+// The list of integers that the twisting operator gives at the cell.
+fn twist_at_the_cell(alloc: Global) -> Result<IntList, AllocError> {
     let base = sphere_table(alloc, 2)?;
     let values = five_on_the_cell(alloc)?;
-    let list = cocycle_tau(alloc, &base, &values, &cell_of_the_sphere())?;
-    assert_eq!(rt; list.as_slice(), [5].as_slice());
-    assert!(rt; check_cocycle(&base, &values).is_ok());
-    Ok(())
+    cocycle_tau(alloc, &base, &values, &cell_of_the_sphere())
+}
+
+// Whether no row of dimension 3 is at fault.
+fn is_cocycle(alloc: Global) -> Result<bool, AllocError> {
+    let base = sphere_table(alloc, 2)?;
+    let values = five_on_the_cell(alloc)?;
+    Ok(check_cocycle(&base, &values).is_ok())
+}
+
+/// The value 5 on the 2-sphere.
+pub(crate) fn push_cocycle(out: &mut String, alloc: Global) -> Result<(), AllocError> {
+    push_line(out, "twist of S2", &twist_at_the_cell(alloc)?)?;
+    push_line(out, "is a cocycle", &is_cocycle(alloc)?)
 }

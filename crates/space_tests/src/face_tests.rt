@@ -5,6 +5,7 @@ ghost use Rattle.term_lang.specs.SpaceOf.{space_of};
 ghost use Rattle.normal_forms.specs.Built.{IsBuilt};
 ghost use Rattle.space_faces.specs.Boundaries.{IsLowCell};
 
+use crate::texts::push_line;
 use cells::{Cell, IntList, Simplex};
 use chain_core::Chain;
 use fp_field::{Fp, Prime};
@@ -12,7 +13,6 @@ use seqs::{Box, new_seq};
 use simp_ops::Degens;
 use space_faces::{boundary, faces_of};
 use std::alloc::{AllocError, Global};
-use std::test::Fail;
 use term_lang::{Faces, Term};
 
 // The boundary of 1 times a cell.
@@ -32,13 +32,12 @@ fn boundary_of_cell(
     boundary(alloc, t, &chain)
 }
 
-#[test]
-fn boundary_of_the_cell_of_a_sphere(rt: HostRuntime) -> Result<(), Fail> {
-    let d = boundary_of_cell(rt.alloc(), &Term::Sphere(2), Prime::Three, Cell::Top(2))?;
-    assert!(rt; d.is_empty());
-    let d = boundary_of_cell(rt.alloc(), &Term::Sphere(1), Prime::Two, Cell::Top(1))?;
-    assert!(rt; d.is_empty());
-    Ok(())
+fn boundary_of_the_2_sphere(alloc: Global) -> Result<Chain<Cell>, AllocError> {
+    boundary_of_cell(alloc, &Term::Sphere(2), Prime::Three, Cell::Top(2))
+}
+
+fn boundary_of_the_circle(alloc: Global) -> Result<Chain<Cell>, AllocError> {
+    boundary_of_cell(alloc, &Term::Sphere(1), Prime::Two, Cell::Top(1))
 }
 
 // The cell |2|3| of K(Z,1).
@@ -51,28 +50,9 @@ fn two_and_three(alloc: Global) -> Result<Cell, AllocError>
     Ok(Cell::Ints(list))
 }
 
-// Whether a cell is that of one integer of K(Z,1).
-fn is_one(cell: &Cell, a: i64) -> bool {
-    match cell {
-        Cell::Ints(list) => list.as_slice() == [a].as_slice(),
-        _ => false,
-    }
-}
-
-#[test]
-fn boundary_in_the_integers(rt: HostRuntime) -> Result<(), Fail> {
-    let d = boundary_of_cell(
-        rt.alloc(),
-        &Term::KZ1,
-        Prime::Three,
-        two_and_three(rt.alloc())?,
-    )?;
-    let terms = d.terms();
-    assert_eq!(rt; terms.len(), 3);
-    assert!(rt; is_one(&terms[0].0, 2) && terms[0].1.value == 1);
-    assert!(rt; is_one(&terms[1].0, 3) && terms[1].1.value == 1);
-    assert!(rt; is_one(&terms[2].0, 5) && terms[2].1.value == 2);
-    Ok(())
+fn boundary_in_the_integers(alloc: Global) -> Result<Chain<Cell>, AllocError> {
+    let cell = two_and_three(alloc)?;
+    boundary_of_cell(alloc, &Term::KZ1, Prime::Three, cell)
 }
 
 // The face d_i of Up |2|3| in the suspension of K(Z,1).
@@ -87,19 +67,13 @@ fn face_of_up(alloc: Global, i: u32) -> Result<Simplex, AllocError>
     faces_of(&term).face(alloc, i, &x)
 }
 
-// Whether a simplex is Up of the cell of one integer.
-fn is_up(x: &Simplex, a: i64) -> bool {
-    match &x.cell {
-        Cell::Up(cell) => x.degens.mask == 0 && is_one(cell.get(), a),
-        _ => false,
-    }
-}
-
-#[test]
-fn faces_of_a_suspended_cell(rt: HostRuntime) -> Result<(), Fail> {
-    let first = face_of_up(rt.alloc(), 0)?;
-    assert!(rt; first.degens.mask == 3 && matches!(first.cell, Cell::Base));
-    assert!(rt; is_up(&face_of_up(rt.alloc(), 2)?, 5));
-    assert!(rt; is_up(&face_of_up(rt.alloc(), 3)?, 2));
-    Ok(())
+/// Boundaries of cells, and the faces of a suspended cell.
+pub(crate) fn push_faces(out: &mut String, alloc: Global) -> Result<(), AllocError> {
+    push_line(out, "D S2", &boundary_of_the_2_sphere(alloc)?)?;
+    push_line(out, "D S1", &boundary_of_the_circle(alloc)?)?;
+    push_line(out, "D |2|3|", &boundary_in_the_integers(alloc)?)?;
+    push_line(out, "d_0 ^|2|3|", &face_of_up(alloc, 0)?)?;
+    push_line(out, "d_1 ^|2|3|", &face_of_up(alloc, 1)?)?;
+    push_line(out, "d_2 ^|2|3|", &face_of_up(alloc, 2)?)?;
+    push_line(out, "d_3 ^|2|3|", &face_of_up(alloc, 3)?)
 }

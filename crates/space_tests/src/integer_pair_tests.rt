@@ -6,22 +6,18 @@ ghost use Rattle.term_lang.specs.SpaceOf.{space_of};
 ghost use Rattle.ez_flow.specs.Parts.{IsPairOf};
 ghost use Rattle.space_pairs.specs.Parts.{IsReached};
 
+use crate::texts::push_line;
 use cells::{Cell, IntList, Simplex};
 use chain_core::Chain;
 use ez_flow::{flow, pair_cell};
 use ez_maps::{Tensor, aw};
-use fp_field::{Fp, Prime};
+use fp_field::Prime;
 use seqs::new_seq;
 use simp_ops::Degens;
 use space_faces::faces_of;
 use space_pairs::SpacePair;
 use std::alloc::{AllocError, Global};
-use std::test::Fail;
 use term_lang::Term;
-
-const ONE: Fp = Fp { value: 1 };
-
-const FOUR: Fp = Fp { value: 4 };
 
 /// The 2-sphere on the left and K(Z,1) on the right, with a reach of at most 5.
 fn sphere_and_integers<'a>(sphere: &'a Term, integers: &'a Term) -> SpacePair<'a>
@@ -65,18 +61,6 @@ fn over_two_and_three(alloc: Global, mask: u64) -> Result<Simplex, AllocError>
     })
 }
 
-/// The cell |3| of K(Z,1) behind a mask.
-fn over_three(alloc: Global, mask: u64) -> Result<Simplex, AllocError>
-    requires { mask < 2 ^ 32 }
-{
-    let mut list: IntList = new_seq(alloc);
-    list.push(3)?;
-    Ok(Simplex {
-        degens: Degens { mask },
-        cell: Cell::Ints(list),
-    })
-}
-
 /// The pair of the cell of the 2-sphere and |2|3|.
 fn whole_cell(alloc: Global) -> Result<Cell, AllocError>
     ensures { IfOk result (IsPairOf (IsReached (space_of (Sphere 2)) 5) (IsReached (space_of KZ1) 5) 2) }
@@ -111,35 +95,24 @@ fn flow_of_whole_cell(
     flow(alloc, &whole, Prime::Five, &cell)
 }
 
-// The front of degree 1 is d_2 of the cell of the sphere, which is degenerate.
-#[test]
-fn alexander_whitney_with_integers(rt: HostRuntime) -> Result<(), Fail> {
-    let chain = aw_of_whole_cell(rt.alloc(), &Term::Sphere(2), &Term::KZ1)?;
-    let lower = Tensor {
-        left: Cell::Base,
-        right: over_two_and_three(rt.alloc(), 0)?.cell,
-    };
-    let upper = Tensor {
-        left: Cell::Top(2),
-        right: Cell::Ints(new_seq(rt.alloc())),
-    };
-    assert_eq!(rt; chain.len(), 2);
-    assert_eq!(rt; chain.coeff(&lower), ONE);
-    assert_eq!(rt; chain.coeff(&upper), ONE);
-    Ok(())
-}
-
-// The cell is a source with the target (s_0, s_1 |2|3|) and the sign -1. What is left over is (S2, |0|3|), of which
-// (s_1, |0|3|0|) is the target, and then (S2, |3|0|) with the target (s_0, |3|0|0|) and the sign -1.
-#[test]
-fn flow_with_integers(rt: HostRuntime) -> Result<(), Fail> {
-    let chain = flow_of_whole_cell(rt.alloc(), &Term::Sphere(2), &Term::KZ1)?;
-    let first = pair_cell(rt.alloc(), over_top(1), over_two_and_three(rt.alloc(), 2)?)?;
-    let second = pair_cell(rt.alloc(), over_top(2), over_three(rt.alloc(), 5)?)?;
-    let third = pair_cell(rt.alloc(), over_top(1), over_three(rt.alloc(), 6)?)?;
-    assert_eq!(rt; chain.len(), 3);
-    assert_eq!(rt; chain.coeff(&first), FOUR);
-    assert_eq!(rt; chain.coeff(&second), ONE);
-    assert_eq!(rt; chain.coeff(&third), FOUR);
-    Ok(())
+/// Alexander-Whitney and the flow on that pair.
+pub(crate) fn push_integer_pair(
+    out: &mut String,
+    alloc: Global,
+    sphere: &Term,
+    integers: &Term,
+) -> Result<(), AllocError>
+    requires sphere { sphere.now ≡ Sphere 2 }
+    requires integers { integers.now ≡ KZ1 }
+{
+    push_line(
+        out,
+        "AW <S2,|2|3|>",
+        &aw_of_whole_cell(alloc, sphere, integers)?,
+    )?;
+    push_line(
+        out,
+        "flow <S2,|2|3|>",
+        &flow_of_whole_cell(alloc, sphere, integers)?,
+    )
 }

@@ -15,6 +15,10 @@ mod integer_pair_tests;
 #[cfg(test)]
 mod pair_face_tests;
 #[cfg(test)]
+mod texts;
+#[cfg(test)]
 mod torus_map_tests;
 #[cfg(test)]
 mod torus_tests;
+#[cfg(test)]
+mod value_tests;

@@ -8,6 +8,7 @@ ghost use Rattle.term_lang.specs.Rows.{rows_of};
 ghost use Rattle.finite_sets.specs.Spheres.{IsSphereTable};
 ghost use Rattle.term_lang.specs.SpaceOf.{space_of};
 
+use crate::texts::push_line;
 use cells::{Cell, IntList, Simplex};
 use finite_sets::sphere_table;
 use normal_forms::paired;
@@ -15,7 +16,6 @@ use seqs::{Box, new_seq};
 use simp_ops::Degens;
 use space_faces::faces_of;
 use std::alloc::{AllocError, Global};
-use std::test::Fail;
 use term_lang::{Faces, Term, check_term};
 
 // The product of two circles.
@@ -55,32 +55,12 @@ fn torus_degeneracy(alloc: Global) -> Result<Simplex, AllocError> {
     faces_of(&term).degeneracy(alloc, 0, &x)
 }
 
-// Whether a simplex is this mask before the pair of two simplices of the circle with these masks, each of the vertex or the cell.
-fn is_torus_pair(x: &Simplex, mask: u64, left: (u64, bool), right: (u64, bool)) -> bool {
-    match &x.cell {
-        Cell::Pair(a, b) => {
-            x.degens.mask == mask && is_circle(a.get(), left) && is_circle(b.get(), right)
-        }
-        _ => false,
-    }
-}
-
-fn is_circle(x: &Simplex, (mask, is_cell): (u64, bool)) -> bool {
-    match &x.cell {
-        Cell::Base => x.degens.mask == mask && !is_cell,
-        Cell::Top(n) => x.degens.mask == mask && is_cell && *n == 1,
-        _ => false,
-    }
-}
-
-#[test]
-fn faces_of_a_torus(rt: HostRuntime) -> Result<(), Fail> {
-    let alloc = rt.alloc();
-    assert!(rt; is_torus_pair(&torus_face(alloc, 0)?, 0, (1, false), (0, true)));
-    assert!(rt; is_torus_pair(&torus_face(alloc, 1)?, 0, (0, true), (0, true)));
-    assert!(rt; is_torus_pair(&torus_face(alloc, 2)?, 0, (0, true), (1, false)));
-    assert!(rt; is_torus_pair(&torus_degeneracy(alloc)?, 1, (0, true), (0, true)));
-    Ok(())
+/// The faces of a cell of the torus, and a degeneracy.
+pub(crate) fn push_torus_faces(out: &mut String, alloc: Global) -> Result<(), AllocError> {
+    push_line(out, "d_0 <1:S1,0:S1>", &torus_face(alloc, 0)?)?;
+    push_line(out, "d_1 <1:S1,0:S1>", &torus_face(alloc, 1)?)?;
+    push_line(out, "d_2 <1:S1,0:S1>", &torus_face(alloc, 2)?)?;
+    push_line(out, "s_0 <S1,S1>", &torus_degeneracy(alloc)?)
 }
 
 // The bundle of the value 1 on the cell of the 2-sphere.
@@ -136,37 +116,20 @@ fn face_of_five(alloc: Global, t: &Term, i: u32) -> Result<Simplex, AllocError>
     faces_of(t).face(alloc, i, &x)
 }
 
-// Whether a simplex is a mask before the pair of a degeneracy of the vertex and these integers without a mask.
-fn is_over_vertex(x: &Simplex, mask: u64, base: u64, items: &[i64]) -> bool {
-    match &x.cell {
-        Cell::Pair(b, f) => {
-            x.degens.mask == mask && is_vertex(b.get(), base) && is_list(f.get(), items)
-        }
-        _ => false,
-    }
+fn push_faces_of_five(out: &mut String, alloc: Global, t: &Term) -> Result<(), AllocError>
+    requires allowed { IsAllowed (space_of t.now) }
+    requires bundle { (rows : List Row) × (t.now ≡ Bundle rows (pos 0 ∷ (pos 1 ∷ []))) × IsTable (rows_of rows) × IsSphereTable 2 rows }
+{
+    push_line(out, "d_0 <S2,0:|5|>", &face_of_five(alloc, t, 0)?)?;
+    push_line(out, "d_1 <S2,0:|5|>", &face_of_five(alloc, t, 1)?)?;
+    push_line(out, "d_2 <S2,0:|5|>", &face_of_five(alloc, t, 2)?)
 }
 
-fn is_vertex(b: &Simplex, mask: u64) -> bool {
-    match &b.cell {
-        Cell::Row(0, 0) => b.degens.mask == mask,
-        _ => false,
-    }
-}
-
-fn is_list(f: &Simplex, items: &[i64]) -> bool {
-    match &f.cell {
-        Cell::Ints(list) => f.degens.mask == 0 && list.as_slice() == items,
-        _ => false,
-    }
-}
-
-#[test]
-fn first_face_of_a_bundle_is_twisted(rt: HostRuntime) -> Result<(), Fail> {
-    let alloc = rt.alloc();
+/// The faces of that cell, where the bundle is allowed.
+pub(crate) fn push_bundle_faces(out: &mut String, alloc: Global) -> Result<(), AllocError> {
     let t = bundle_of_one(alloc)?;
-    assert!(rt; check_term(&t).is_ok());
-    assert!(rt; is_over_vertex(&face_of_five(alloc, &t, 0)?, 0, 1, &[6]));
-    assert!(rt; is_over_vertex(&face_of_five(alloc, &t, 1)?, 0, 1, &[5]));
-    assert!(rt; is_over_vertex(&face_of_five(alloc, &t, 2)?, 1, 0, &[]));
+    if check_term(&t).is_ok() {
+        push_faces_of_five(out, alloc, &t)?;
+    }
     Ok(())
 }

@@ -2,17 +2,15 @@
 ghost use Rattle.std.specs.Prelude.{◌≡◌};
 ghost use Rattle.term_lang.specs.declared.terms.Term.TheVariants.{Sphere};
 
-use crate::simplices::edge;
+use crate::texts::push_line;
 use crate::torus_tests::{square, tops, torus};
 use cells::Cell;
 use chain_core::Chain;
-use ez_flow::pair_cell;
 use ez_maps::{Pairs, Tensor, pairs_meet};
-use fp_field::{Fp, Prime};
+use fp_field::Prime;
 use reduct_laws::Reduction;
 use space_pairs::SpacePair;
 use std::alloc::{AllocError, Global};
-use std::test::Fail;
 use term_lang::Term;
 
 /// The reduction on the torus, over F_3.
@@ -63,22 +61,19 @@ fn small_d_of_tops(alloc: Global, circle: &Term) -> Result<Chain<Tensor<Cell, Ce
     whole.small_d(alloc, &mut (), &tops())
 }
 
-#[test]
-fn the_maps_of_the_torus(rt: HostRuntime) -> Result<(), Fail> {
-    let circle = Term::Sphere(1);
-    assert_eq!(rt; big_d_of_square(rt.alloc(), &circle)?.is_empty(), true);
-    assert_eq!(rt; small_d_of_tops(rt.alloc(), &circle)?.is_empty(), true);
-    assert_eq!(rt; f_of_square(rt.alloc(), &circle)?.len(), 2);
-    assert_eq!(rt; g_of_tops(rt.alloc(), &circle)?.len(), 2);
-    Ok(())
-}
-
-#[test]
-fn the_homotopy_of_the_torus(rt: HostRuntime) -> Result<(), Fail> {
-    let chain = h_of_square(rt.alloc(), &Term::Sphere(1))?;
-    let target = pair_cell(rt.alloc(), edge(1), edge(2))?;
-    assert_eq!(rt; chain.coeff(&target), Fp { value: 2 });
-    Ok(())
+/// The maps of the reduction.
+pub(crate) fn push_torus_maps(
+    out: &mut String,
+    alloc: Global,
+    circle: &Term,
+) -> Result<(), AllocError>
+    requires circle { circle.now ≡ Sphere 1 }
+{
+    push_line(out, "D <S1,S1>", &big_d_of_square(alloc, circle)?)?;
+    push_line(out, "d S1*S1", &small_d_of_tops(alloc, circle)?)?;
+    push_line(out, "F <S1,S1>", &f_of_square(alloc, circle)?)?;
+    push_line(out, "G S1*S1", &g_of_tops(alloc, circle)?)?;
+    push_line(out, "H <S1,S1>", &h_of_square(alloc, circle)?)
 }
 
 #[test]

@@ -6,20 +6,16 @@ ghost use Rattle.ez_flow.specs.Parts.{IsPairOf};
 ghost use Rattle.space_pairs.specs.Parts.{IsReached};
 
 use crate::simplices::edge;
+use crate::texts::push_line;
 use cells::Cell;
 use chain_core::Chain;
 use ez_flow::{flow, pair_cell};
 use ez_maps::{Tensor, aw, eml};
-use fp_field::{Fp, Prime};
+use fp_field::Prime;
 use space_faces::faces_of;
 use space_pairs::SpacePair;
 use std::alloc::{AllocError, Global};
-use std::test::Fail;
 use term_lang::Term;
-
-const ONE: Fp = Fp { value: 1 };
-
-const TWO: Fp = Fp { value: 2 };
 
 /// The two parts of the torus.
 pub(crate) fn torus(circle: &Term) -> SpacePair<'_>
@@ -74,39 +70,11 @@ fn eml_of_tops(alloc: Global, circle: &Term) -> Result<Chain<Cell>, AllocError>
     eml(alloc, &whole, Prime::Three, &tops())
 }
 
-#[test]
-fn alexander_whitney_of_the_torus(rt: HostRuntime) -> Result<(), Fail> {
-    let chain = aw_of_square(rt.alloc(), &Term::Sphere(1))?;
-    let lower = Tensor {
-        left: Cell::Base,
-        right: Cell::Top(1),
-    };
-    let upper = Tensor {
-        left: Cell::Top(1),
-        right: Cell::Base,
-    };
-    assert_eq!(rt; chain.len(), 2);
-    assert_eq!(rt; chain.coeff(&lower), ONE);
-    assert_eq!(rt; chain.coeff(&upper), ONE);
-    Ok(())
-}
-
-#[test]
-fn flow_of_the_torus(rt: HostRuntime) -> Result<(), Fail> {
-    let chain = flow_of_square(rt.alloc(), &Term::Sphere(1))?;
-    let target = pair_cell(rt.alloc(), edge(1), edge(2))?;
-    assert_eq!(rt; chain.len(), 1);
-    assert_eq!(rt; chain.coeff(&target), TWO);
-    Ok(())
-}
-
-#[test]
-fn eilenberg_mac_lane_of_the_torus(rt: HostRuntime) -> Result<(), Fail> {
-    let chain = eml_of_tops(rt.alloc(), &Term::Sphere(1))?;
-    let first = pair_cell(rt.alloc(), edge(1), edge(2))?;
-    let second = pair_cell(rt.alloc(), edge(2), edge(1))?;
-    assert_eq!(rt; chain.len(), 2);
-    assert_eq!(rt; chain.coeff(&first), TWO);
-    assert_eq!(rt; chain.coeff(&second), ONE);
-    Ok(())
+/// Alexander-Whitney, Eilenberg-Mac Lane and the flow on the torus.
+pub(crate) fn push_torus(out: &mut String, alloc: Global, circle: &Term) -> Result<(), AllocError>
+    requires circle { circle.now ≡ Sphere 1 }
+{
+    push_line(out, "AW <S1,S1>", &aw_of_square(alloc, circle)?)?;
+    push_line(out, "flow <S1,S1>", &flow_of_square(alloc, circle)?)?;
+    push_line(out, "EML S1*S1", &eml_of_tops(alloc, circle)?)
 }
