@@ -154,12 +154,7 @@ letter_cmp-then l m = λ i. ordering_then (inverses l.inverse m.inverse i) (simp
     inverses false true = refl
     inverses false false = refl
 
--- ---- for the code: where dimensions or kinds differ they decide, else what is within
-
-pub is_equal : (o : Ordering) → is_ne o ≡ false → o ≡ Equal
-is_equal Less h = absurd (true≢false h)
-is_equal Equal h = refl
-is_equal Greater h = absurd (true≢false h)
+-- ---- for the code: what decides, and how what is within cells of one kind compares
 
 pub is_not_equal : (o z : Ordering) → is_ne o ≡ true → o ≡ ordering_then o z
 is_not_equal Less z h = refl
@@ -170,13 +165,6 @@ pub decides : (o z : Ordering) → (o ≡ Equal → ⊥) → o ≡ ordering_then
 decides Less z h = refl
 decides Equal z h = absurd (h refl)
 decides Greater z h = refl
-
-pub by_kinds : (c d : Cell) (b : Ordering) → b ≡ kinds_cmp c d → is_ne b ≡ true → b ≡ cell_cmp c d
-by_kinds c d b e t = is_not_equal b (within_cmp c d) t ∙ ap (λ z. ordering_then z (within_cmp c d)) e ∙ sym (cell_cmp-then c d)
-
-pub by_contents : (c d y z : Cell) (b r : Ordering) → b ≡ kinds_cmp c d → is_ne b ≡ false → c ≡ y → d ≡ z → r ≡ within_cmp y z → r ≡ cell_cmp c d
-by_contents c d y z b r e t p q h =
-    h ∙ (λ i. within_cmp (sym p i) (sym q i)) ∙ ap (λ o. ordering_then o (within_cmp c d)) (sym (is_equal b t) ∙ e) ∙ sym (cell_cmp-then c d)
 
 pub rows : (d e a b : ℕ) → within_cmp (Row d a) (Row e b) ≡ nat_cmp a b
 rows d e a b = λ i. within (opened d a i) (opened e b i)

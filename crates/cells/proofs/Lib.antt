@@ -4,3 +4,8 @@ pub mod Compared
 pub mod OneKey
 pub mod SmallForms
 pub mod OneSmall
+pub mod ByParts
+pub mod Equality
+pub mod Fed
+pub mod SmallEquality
+pub mod SmallByParts

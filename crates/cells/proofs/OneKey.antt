@@ -11,7 +11,7 @@ use Rattle.cells.specs.declared.cells.Simplex.{Simplex}
 use Rattle.cells.specs.Dim.{dim_of}
 use Rattle.cells.specs.Forests.{end}
 use Rattle.cells.specs.Order.{number, simplex_before, ints_forest, letters_forest, forest, cell_cmp, simplex_cmp, letter_cmp, kind_in}
-use Rattle.cells.proofs.EqualForests.{forest_is}
+use Rattle.cells.specs.ForestLaws.{forest_is}
 use Rattle.cells.proofs.Dimensions.{dim-Row, dim-Top}
 use Rattle.cells.proofs.Compared.{contents_in, with_forest, headed_in}
 

@@ -7,7 +7,7 @@ use Rattle.cells.specs.declared.cells.SmallCell.TheOpen.{SmallCell-F}
 use Rattle.cells.specs.Forests.{end, item}
 use Rattle.cells.specs.Order.{number}
 use Rattle.cells.specs.Small.{degree_of_small, below_each, small_forest, small_cmp, small_kind_in}
-use Rattle.cells.proofs.EqualForests.{forest_is}
+use Rattle.cells.specs.ForestLaws.{forest_is}
 use Rattle.cells.proofs.OneKey.{told_by_forest}
 use Rattle.cells.proofs.SmallForms.{small_contents_in, small_headed_in}
 

@@ -1,10 +1,9 @@
 -- The degree and the forest of each kind of small cell, and that small cells are compared by degree, kind and then within the kind.
-use Rattle.std.proofs.Common.{◌≡◌, ℕ, zero, suc, ◌+◌, ◌-◌, ◌<◌, min, true, false, List, [], ◌∷◌, ◌++◌, length, map, take, drop, get_or, refl, sym, ◌∙◌, ap, pos, arith}
+use Rattle.std.proofs.Common.{◌≡◌, ℕ, zero, suc, ◌+◌, ◌-◌, ◌<◌, min, List, [], ◌∷◌, ◌++◌, length, map, take, drop, get_or, refl, sym, ◌∙◌, ap, pos, arith}
 use Rattle.std.proofs.lemmas.List.{take_more}
 use Rattle.std.proofs.lemmas.Bool.Decides.{nat_tests}
-use Rattle.std.specs.Ordering.{nat_cmp, ordering_then, is_ne}
+use Rattle.std.specs.Ordering.{nat_cmp, ordering_then}
 use Rattle.std.specs.Cmp.Lexicographic.{slice_cmp}
-use Rattle.std.specs.declared.cmp.Ordering.{Ordering}
 use Rattle.std.specs.declared.cmp.Ordering.TheVariants.{Less, Greater}
 use Rattle.cells.specs.declared.cells.Cell.{Cell}
 use Rattle.cells.specs.declared.cells.SmallCell.{SmallCell, fold-roll-SmallCell, para-roll-SmallCell, roll-SmallCell, out-SmallCell, roll-out-SmallCell, out-roll-SmallCell, map-SmallCell}
@@ -15,7 +14,7 @@ use Rattle.cells.specs.Forests.{Forest, end, item, forest_cmp}
 use Rattle.cells.specs.Order.{number, forest, cell_cmp}
 use Rattle.cells.specs.Small.{less_one_sum, small_degree, degree_of_small, below_each, degrees, small_step, small_forest, small_cmp, small_kind_in, small_kind_of, small_kinds_cmp, small_within, small_within_cmp}
 use Rattle.cells.proofs.EqualForests.{positive}
-use Rattle.cells.proofs.Compared.{alone_then, then_assoc, is_equal, is_not_equal}
+use Rattle.cells.proofs.Compared.{alone_then, then_assoc}
 
 -- ---- degrees
 
@@ -96,14 +95,7 @@ small_cmp-then c d =
     ∙ ap (ordering_then (nat_cmp (degree_of_small c) (degree_of_small d))) (small_within-is (out-SmallCell c) (out-SmallCell d))
     ∙ then_assoc (nat_cmp (degree_of_small c) (degree_of_small d)) (nat_cmp (small_kind_of c) (small_kind_of d)) (small_within_cmp c d)
 
--- ---- for the code: where degrees or kinds differ they decide, else what is within
-
-pub by_small_kinds : (c d : SmallCell) (b : Ordering) → b ≡ small_kinds_cmp c d → is_ne b ≡ true → b ≡ small_cmp c d
-by_small_kinds c d b e t = is_not_equal b (small_within_cmp c d) t ∙ ap (λ z. ordering_then z (small_within_cmp c d)) e ∙ sym (small_cmp-then c d)
-
-pub by_small_contents : (c d y z : SmallCell) (b r : Ordering) → b ≡ small_kinds_cmp c d → is_ne b ≡ false → c ≡ y → d ≡ z → r ≡ small_within_cmp y z → r ≡ small_cmp c d
-by_small_contents c d y z b r e t p q h =
-    h ∙ (λ i. small_within_cmp (sym p i) (sym q i)) ∙ ap (λ o. ordering_then o (small_within_cmp c d)) (sym (is_equal b t) ∙ e) ∙ sym (small_cmp-then c d)
+-- ---- for the code: how what is within small cells of one kind compares
 
 pub ones : (c d : Cell) → small_within_cmp (One c) (One d) ≡ cell_cmp c d
 ones c d = λ i. small_within (opened c i) (opened d i)

@@ -1,8 +1,9 @@
 -- The order of forests is total: turned round it is its own reverse, it is transitive, and forests that compare as equal compare
--- alike with each other forest. (These are the laws of `Ord`; any textbook on orders.) For example row 1 is less than row 2 and row
+-- alike with each other forest; and such forests are the same. (These are the laws of `Ord`; any textbook on orders.) For example row 1 is less than row 2 and row
 -- 2 less than row 3, so row 1 is less than row 3.
-use Rattle.std.proofs.Common.{◌≡◌, ℤ, refl, sym, ◌∙◌, ap, true≢false}
-use Rattle.std.specs.Ordering.{int_cmp, ordering_then, ordering_reverse, is_lt, is_gt}
+use Rattle.std.proofs.Common.{◌≡◌, ◌<ℤ◌, ℤ, refl, sym, ◌∙◌, ap, true≢false}
+use Rattle.std.proofs.lemmas.Cmp.{int_ranked}
+use Rattle.std.specs.Ordering.{MatchOrdering, int_cmp, ordering_then, ordering_reverse, is_lt, is_gt}
 use Rattle.std.specs.Cmp.{IsTotalOrder, int_cmp_total}
 use Rattle.std.specs.declared.cmp.Ordering.{Ordering}
 use Rattle.std.specs.declared.cmp.Ordering.TheVariants.{Less, Equal, Greater}
@@ -75,3 +76,17 @@ forest_trans (item x c r) (item y d s) (item z e t) h g =
 
 pub forest_total : IsTotalOrder forest_cmp
 forest_total = record { antisymm = forest_antisymm; trans = forest_trans; congr = forest_congr }
+
+-- ---- forests that compare as equal are the same
+
+int_is : (x y : ℤ) → int_cmp x y ≡ Equal → x ≡ y
+int_is x y h = let r : MatchOrdering (int_cmp x y) (x <ℤ y) (x ≡ y) (y <ℤ x) = int_ranked x y (int_cmp x y) refl in rw h at r
+
+pub forest_is : (f g : Forest) → forest_cmp f g ≡ Equal → f ≡ g
+forest_is end end h = refl
+forest_is end (item y d s) h = absurd (cc)
+forest_is (item x c r) end h = absurd (cc)
+forest_is (item x c r) (item y d s) h =
+    let b = second_equal (int_cmp x y) (ordering_then (forest_cmp c d) (forest_cmp r s)) h in
+    λ i. item (int_is x y (first_equal (int_cmp x y) (ordering_then (forest_cmp c d) (forest_cmp r s)) h) i)
+    (forest_is c d (first_equal (forest_cmp c d) (forest_cmp r s) b) i) (forest_is r s (second_equal (forest_cmp c d) (forest_cmp r s) b) i)

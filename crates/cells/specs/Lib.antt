@@ -4,3 +4,4 @@ pub mod ForestLaws
 pub mod Order
 pub mod Small
 pub mod Laws
+pub mod Hashes

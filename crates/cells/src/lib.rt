@@ -4,6 +4,8 @@
 mod cells;
 mod copies;
 mod dims;
+mod equal;
+mod hashes;
 mod laws;
 mod order;
 mod small;

@@ -1,10 +1,15 @@
-// The orders of cells, letters and simplices: by dimension, kind and contents.
-ghost use Rattle.std.specs.Prelude.{◌≡◌, length};
+// The orders of cells, letters and simplices: by dimension, kind and contents. Of two cells of one
+// kind the dimensions are counted only where they decide: what is compared after them tells cells
+// of different dimensions apart in the same way, unless masks or lengths come before it.
+ghost use Rattle.std.specs.Prelude.{◌≡◌, length, IsTrue};
+ghost use Rattle.std.specs.Ordering.{nat_cmp, int_cmp, ordering_then};
 ghost use Rattle.std.specs.Cmp.Lexicographic.{slice_cmp};
-ghost use Rattle.cells.specs.Order.{kind_of, kinds_cmp, letter_cmp};
+ghost use Rattle.cells.specs.declared.cells.Cell.TheVariants.{Word};
+ghost use Rattle.cells.specs.Dim.{degree_of};
+ghost use Rattle.cells.specs.Order.{kind_of, kinds_cmp, cell_cmp, simplex_cmp, letter_cmp};
 
-use crate::cells::{Cell, Letter, Simplex};
-use crate::dims::dim;
+use crate::cells::{Cell, IntList, Letter, LetterList, Simplex};
+use crate::dims::{degree, dim};
 use std::cmp::Ordering;
 
 // The place of a cell's variant in the order of the enum.
@@ -26,8 +31,66 @@ fn kind(c: &Cell) -> u8
 fn cmp_kinds(c: &Cell, d: &Cell) -> Ordering
     ensures { result ≡ kinds_cmp c.now d.now }
 {
-    let by_dim = dim(c).cmp(&dim(d));
-    by_dim.then(kind(c).cmp(&kind(d)))
+    match dim(c).cmp(&dim(d)) {
+        Ordering::Equal => kind(c).cmp(&kind(d)),
+        unequal => unequal,
+    }
+}
+
+// By length, then by the first different integer.
+fn cmp_ints(a: &IntList, b: &IntList) -> Ordering
+    ensures { result ≡ ordering_then (nat_cmp (length a.now) (length b.now)) (slice_cmp int_cmp a.now b.now) }
+{
+    match a.len().cmp(&b.len()) {
+        Ordering::Equal => a.cmp(b),
+        unequal => unequal,
+    }
+}
+
+// Whether letters differ in their cells at most.
+fn alike(l: &Letter, m: &Letter) -> bool
+    ensures inverse { IsTrue result → l.now.inverse ≡ m.now.inverse }
+    ensures mask { IsTrue result → l.now.simplex.degens.mask ≡ m.now.simplex.degens.mask }
+{
+    l.inverse == m.inverse && l.simplex.degens.mask == m.simplex.degens.mask
+}
+
+// Whether words of one length begin with letters that differ in their cells at most.
+fn begin_alike(a: &LetterList, b: &LetterList) -> bool
+    ensures { IsTrue result → cell_cmp (Word a.now) (Word b.now)
+        ≡ ordering_then (nat_cmp (length a.now) (length b.now)) (slice_cmp letter_cmp a.now b.now) }
+{
+    if a.len() != b.len() {
+        return false;
+    }
+    match (a.get(0), b.get(0)) {
+        (Some(l), Some(m)) => alike(l, m),
+        _ => false,
+    }
+}
+
+// Of two words: by dimension, where what they begin with does not do without it.
+fn cmp_word_dims(c: &Cell, d: &Cell, a: &LetterList, b: &LetterList) -> Ordering
+    requires first { c.now ≡ Word a.now }
+    requires second { d.now ≡ Word b.now }
+    ensures { cell_cmp c.now d.now
+        ≡ ordering_then result (ordering_then (nat_cmp (length a.now) (length b.now)) (slice_cmp letter_cmp a.now b.now)) }
+{
+    if begin_alike(a, b) {
+        return Ordering::Equal;
+    }
+    dim(c).cmp(&dim(d))
+}
+
+// Words by length, then letter by letter.
+#[cycle(order)]
+fn cmp_words(a: &[Letter], b: &[Letter]) -> Ordering
+    ensures { result ≡ ordering_then (nat_cmp (length a.now) (length b.now)) (slice_cmp letter_cmp a.now b.now) }
+{
+    match a.len().cmp(&b.len()) {
+        Ordering::Equal => cmp_letters(a, b),
+        unequal => unequal,
+    }
 }
 
 // Words of one length, letter by letter.
@@ -45,6 +108,21 @@ fn cmp_letters(a: &[Letter], b: &[Letter]) -> Ordering
     Ordering::Equal
 }
 
+// By degree, then in the order of simplices. Of simplices with one mask the cells decide as the
+// degrees do.
+#[cycle(order)]
+fn cmp_lefts(a: &Simplex, b: &Simplex) -> Ordering
+    ensures { result ≡ ordering_then (nat_cmp (degree_of a.now) (degree_of b.now)) (simplex_cmp a.now b.now) }
+{
+    match a.degens.cmp(&b.degens) {
+        Ordering::Equal => a.cell.cmp(&b.cell),
+        by_mask => match degree(a).cmp(&degree(b)) {
+            Ordering::Equal => by_mask,
+            by_degree => by_degree,
+        },
+    }
+}
+
 impl Ord for Cell {
     ghost use Rattle.cells.specs.Order.{cell_cmp};
     ghost use Rattle.cells.specs.Laws.{cell_total, cell_agrees, cell_ties};
@@ -59,26 +137,21 @@ impl Ord for Cell {
 
     #[cycle(order)]
     fn cmp(&self, other: &Cell) -> Ordering {
-        let by_kind = cmp_kinds(self, other);
-        if by_kind.is_ne() {
-            return by_kind;
-        }
         match (self, other) {
-            (Cell::Row(_, a), Cell::Row(_, b)) => a.cmp(b),
-            (Cell::Pair(a, x), Cell::Pair(b, y)) => match a.get().cmp(b.get()) {
+            (Cell::Row(d, a), Cell::Row(e, b)) => d.cmp(e).then(a.cmp(b)),
+            (Cell::Base, Cell::Base) => Ordering::Equal,
+            (Cell::Top(m), Cell::Top(n)) => m.cmp(n),
+            (Cell::Pair(a, x), Cell::Pair(b, y)) => match cmp_lefts(a.get(), b.get()) {
                 Ordering::Equal => x.get().cmp(y.get()),
                 unequal => unequal,
             },
             (Cell::Up(c), Cell::Up(d)) => c.get().cmp(d.get()),
-            (Cell::Ints(a), Cell::Ints(b)) => a.len().cmp(&b.len()).then(a.cmp(b)),
-            (Cell::Word(a), Cell::Word(b)) => match a.len().cmp(&b.len()) {
-                Ordering::Equal => cmp_letters(a.as_slice(), b.as_slice()),
+            (Cell::Ints(a), Cell::Ints(b)) => cmp_ints(a, b),
+            (Cell::Word(a), Cell::Word(b)) => match cmp_word_dims(self, other, a, b) {
+                Ordering::Equal => cmp_words(a.as_slice(), b.as_slice()),
                 unequal => unequal,
             },
-            (Cell::Base, Cell::Base) => Ordering::Equal,
-            (Cell::Top(_), Cell::Top(_)) => Ordering::Equal,
-            // Only cells of one kind come here.
-            _ => by_kind,
+            _ => cmp_kinds(self, other),
         }
     }
 }
@@ -139,26 +212,6 @@ impl PartialOrd for Cell {
     }
 }
 
-impl PartialEq for Cell {
-    ghost use Rattle.cells.specs.Order.{cell_cmp};
-    ghost use Rattle.cells.specs.Laws.{cell_per};
-    ghost use Rattle.std.specs.Ordering.{eq_by_cmp};
-
-    ghost eq = { eq_by_cmp cell_cmp };
-
-    ghost laws = { cell_per };
-
-    fn eq(&self, other: &Cell) -> bool {
-        self.cmp(other).is_eq()
-    }
-}
-
-impl Eq for Cell {
-    ghost use Rattle.cells.specs.Laws.{cell_equiv};
-
-    ghost laws = { cell_equiv };
-}
-
 impl PartialOrd for Simplex {
     ghost use Rattle.cells.specs.Order.{simplex_cmp};
     ghost use Rattle.cells.specs.Laws.{simplex_po};
@@ -173,26 +226,6 @@ impl PartialOrd for Simplex {
     }
 }
 
-impl PartialEq for Simplex {
-    ghost use Rattle.cells.specs.Order.{simplex_cmp};
-    ghost use Rattle.cells.specs.Laws.{simplex_per};
-    ghost use Rattle.std.specs.Ordering.{eq_by_cmp};
-
-    ghost eq = { eq_by_cmp simplex_cmp };
-
-    ghost laws = { simplex_per };
-
-    fn eq(&self, other: &Simplex) -> bool {
-        self.cmp(other).is_eq()
-    }
-}
-
-impl Eq for Simplex {
-    ghost use Rattle.cells.specs.Laws.{simplex_equiv};
-
-    ghost laws = { simplex_equiv };
-}
-
 impl PartialOrd for Letter {
     ghost use Rattle.cells.specs.Order.{letter_cmp};
     ghost use Rattle.cells.specs.Laws.{letter_po};
@@ -205,24 +238,4 @@ impl PartialOrd for Letter {
     fn partial_cmp(&self, other: &Letter) -> Option<Ordering> {
         Some(self.cmp(other))
     }
-}
-
-impl PartialEq for Letter {
-    ghost use Rattle.cells.specs.Order.{letter_cmp};
-    ghost use Rattle.cells.specs.Laws.{letter_per};
-    ghost use Rattle.std.specs.Ordering.{eq_by_cmp};
-
-    ghost eq = { eq_by_cmp letter_cmp };
-
-    ghost laws = { letter_per };
-
-    fn eq(&self, other: &Letter) -> bool {
-        self.cmp(other).is_eq()
-    }
-}
-
-impl Eq for Letter {
-    ghost use Rattle.cells.specs.Laws.{letter_equiv};
-
-    ghost laws = { letter_equiv };
 }

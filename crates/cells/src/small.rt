@@ -1,5 +1,5 @@
 // The degree and the order of small cells.
-ghost use Rattle.std.specs.Prelude.{◌≡◌};
+ghost use Rattle.std.specs.Prelude.{◌≡◌, ◌<◌};
 ghost use Rattle.std.specs.Cmp.Lexicographic.{slice_cmp};
 ghost use Rattle.cells.specs.Small.{degree_of_small, small_kind_of, small_kinds_cmp, small_cmp};
 
@@ -43,8 +43,76 @@ fn kind(c: &SmallCell) -> u8
 fn cmp_kinds(c: &SmallCell, d: &SmallCell) -> Ordering
     ensures { result ≡ small_kinds_cmp c.now d.now }
 {
-    let by_degree = small_degree(c).cmp(&small_degree(d));
-    by_degree.then(kind(c).cmp(&kind(d)))
+    match small_degree(c).cmp(&small_degree(d)) {
+        Ordering::Equal => kind(c).cmp(&kind(d)),
+        unequal => unequal,
+    }
+}
+
+// Degrees are counted only where no part tells: of pairs with one left part the right ones decide.
+#[cycle(small)]
+fn cmp_small(c: &SmallCell, d: &SmallCell) -> Ordering
+    ensures { result ≡ small_cmp c.now d.now }
+{
+    match (c, d) {
+        (SmallCell::One(x), SmallCell::One(y)) => x.cmp(y),
+        (SmallCell::Pair(a, x), SmallCell::Pair(b, y)) => {
+            if a.get() == b.get() {
+                return cmp_small(x.get(), y.get());
+            }
+            let m = small_degree(a.get());
+            let n = small_degree(b.get());
+            let first = m.saturating_add(small_degree(x.get()));
+            match first.cmp(&n.saturating_add(small_degree(y.get()))) {
+                Ordering::Equal => cmp_counted(a.get(), b.get(), m, n),
+                unequal => unequal,
+            }
+        }
+        (SmallCell::Up(x), SmallCell::Up(y)) => cmp_small(x.get(), y.get()),
+        (SmallCell::Word(v), SmallCell::Word(w)) => match small_degree(c).cmp(&small_degree(d)) {
+            Ordering::Equal => cmp_words(v.as_slice(), w.as_slice()),
+            unequal => unequal,
+        },
+        _ => cmp_kinds(c, d),
+    }
+}
+
+// Small cells whose degrees m and n are counted.
+#[cycle(small)]
+fn cmp_counted(c: &SmallCell, d: &SmallCell, m: u32, n: u32) -> Ordering
+    ensures { m ≡ degree_of_small c.now → n ≡ degree_of_small d.now → result ≡ small_cmp c.now d.now }
+{
+    match m.cmp(&n) {
+        Ordering::Equal => {
+            if m == u32::MAX {
+                return cmp_small(c, d);
+            }
+            cmp_level(c, d)
+        }
+        unequal => unequal,
+    }
+}
+
+// Small cells of one degree, which is below the greatest number: so are the parts that are left when
+// parts of one degree are taken away.
+#[cycle(small)]
+fn cmp_level(c: &SmallCell, d: &SmallCell) -> Ordering
+    ensures { degree_of_small c.now ≡ degree_of_small d.now → degree_of_small c.now < 4294967295
+        → result ≡ small_cmp c.now d.now }
+{
+    match (c, d) {
+        (SmallCell::One(x), SmallCell::One(y)) => x.cmp(y),
+        (SmallCell::Pair(a, x), SmallCell::Pair(b, y)) => {
+            if a.get() == b.get() {
+                return cmp_level(x.get(), y.get());
+            }
+            let m = small_degree(a.get());
+            cmp_counted(a.get(), b.get(), m, small_degree(b.get()))
+        }
+        (SmallCell::Up(x), SmallCell::Up(y)) => cmp_level(x.get(), y.get()),
+        (SmallCell::Word(v), SmallCell::Word(w)) => cmp_words(v.as_slice(), w.as_slice()),
+        _ => kind(c).cmp(&kind(d)),
+    }
 }
 
 // Words letter by letter; of two of which one begins the other the shorter is less.
@@ -53,7 +121,7 @@ fn cmp_words(a: &[SmallCell], b: &[SmallCell]) -> Ordering
     ensures { result ≡ slice_cmp small_cmp a.now b.now }
 {
     for i in 0..a.len().min(b.len()) {
-        match a[i].cmp(&b[i]) {
+        match cmp_small(&a[i], &b[i]) {
             Ordering::Equal => {}
             unequal => return unequal,
         }
@@ -73,23 +141,8 @@ impl Ord for SmallCell {
 
     ghost matches_eq = { small_ties };
 
-    #[cycle(small)]
     fn cmp(&self, other: &SmallCell) -> Ordering {
-        let by_kind = cmp_kinds(self, other);
-        if by_kind.is_ne() {
-            return by_kind;
-        }
-        match (self, other) {
-            (SmallCell::One(c), SmallCell::One(d)) => c.cmp(d),
-            (SmallCell::Pair(a, x), SmallCell::Pair(b, y)) => match a.get().cmp(b.get()) {
-                Ordering::Equal => x.get().cmp(y.get()),
-                unequal => unequal,
-            },
-            (SmallCell::Up(c), SmallCell::Up(d)) => c.get().cmp(d.get()),
-            (SmallCell::Word(a), SmallCell::Word(b)) => cmp_words(a.as_slice(), b.as_slice()),
-            // Only small cells of one kind come here.
-            _ => by_kind,
-        }
+        cmp_small(self, other)
     }
 }
 
@@ -105,24 +158,4 @@ impl PartialOrd for SmallCell {
     fn partial_cmp(&self, other: &SmallCell) -> Option<Ordering> {
         Some(self.cmp(other))
     }
-}
-
-impl PartialEq for SmallCell {
-    ghost use Rattle.cells.specs.Small.{small_cmp};
-    ghost use Rattle.cells.specs.Laws.{small_per};
-    ghost use Rattle.std.specs.Ordering.{eq_by_cmp};
-
-    ghost eq = { eq_by_cmp small_cmp };
-
-    ghost laws = { small_per };
-
-    fn eq(&self, other: &SmallCell) -> bool {
-        self.cmp(other).is_eq()
-    }
-}
-
-impl Eq for SmallCell {
-    ghost use Rattle.cells.specs.Laws.{small_equiv};
-
-    ghost laws = { small_equiv };
 }

@@ -3,7 +3,7 @@ ghost use Rattle.std.specs.Prelude.{◌≡◌, ◌↔◌, IsSome, IfSome, Contai
 ghost use Rattle.fp_field.specs.Field.{number, primes};
 
 /// One of the eight primes 2, 3, 5, 7, 11, 13, 17 and 19.
-#[derive(Clone, Copy, Debug, PartialEq, Eq, PartialOrd, Ord)]
+#[derive(Clone, Copy, Debug, PartialEq, Eq, PartialOrd, Ord, Hash)]
 pub enum Prime {
     Two,
     Three,

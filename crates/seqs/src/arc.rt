@@ -2,6 +2,7 @@ ghost use Rattle.std.specs.Prelude.{◌≡◌, IfOk};
 
 use std::alloc::{AllocError, Global};
 use std::cmp::Ordering;
+use std::hash::{Hash, Hasher};
 use std::marker::Model;
 use std::sync::Arc as Inner;
 
@@ -82,5 +83,15 @@ impl<T: Ord> Ord for Arc<T> {
 
     fn cmp(&self, other: &Self) -> Ordering {
         self.get().cmp(other.get())
+    }
+}
+
+impl<T: Hash> Hash for Arc<T> {
+    ghost hash_input = { T.hash_input };
+
+    ghost respects_eq = { T.respects_eq };
+
+    fn hash<H: Hasher>(&self, state: &mut H) {
+        self.get().hash(state);
     }
 }

@@ -3,6 +3,7 @@ ghost use Rattle.std.specs.Prelude.{◌≡◌, IfOk};
 use std::alloc::{AllocError, Global};
 use std::boxed::Box as Inner;
 use std::cmp::Ordering;
+use std::hash::{Hash, Hasher};
 use std::marker::Model;
 
 /// A value on the heap, which contracts see as the value itself.
@@ -86,5 +87,15 @@ impl<T: Ord> Ord for Box<T> {
 
     fn cmp(&self, other: &Self) -> Ordering {
         self.get().cmp(other.get())
+    }
+}
+
+impl<T: Hash> Hash for Box<T> {
+    ghost hash_input = { T.hash_input };
+
+    ghost respects_eq = { T.respects_eq };
+
+    fn hash<H: Hasher>(&self, state: &mut H) {
+        self.get().hash(state);
     }
 }

@@ -1,6 +1,7 @@
 // Lists are compared item by item; of two of which one begins the other the shorter is less.
 use crate::seq::Seq;
 use std::cmp::Ordering;
+use std::hash::{Hash, Hasher};
 
 impl<T: PartialEq> PartialEq for Seq<T> {
     ghost use Rattle.std.specs.Cmp.Lexicographic.{pointwise, lists_per};
@@ -45,5 +46,18 @@ impl<T: Ord> Ord for Seq<T> {
 
     fn cmp(&self, other: &Self) -> Ordering {
         self.as_slice().cmp(other.as_slice())
+    }
+}
+
+impl<T: Hash> Hash for Seq<T> {
+    ghost use Rattle.std.specs.Hash as fed;
+    ghost use Rattle.std.specs.Hash.{items_Alike};
+
+    ghost hash_input = { fed.slice T.hash_input };
+
+    ghost respects_eq = { (items_Alike (record { fed = T.respects_eq })).fed };
+
+    fn hash<H: Hasher>(&self, state: &mut H) {
+        self.as_slice().hash(state);
     }
 }
