@@ -62,5 +62,5 @@ pub fn sphere_table(alloc: Global, n: u32) -> Result<Table, AllocError>
     let mut rows = RowList::new(alloc);
     rows.push(vertex)?;
     rows.push(cell)?;
-    Ok(table_of(rows))
+    table_of(alloc, rows)
 }

@@ -95,7 +95,7 @@ pub fn build_table(alloc: Global, rows: &RowTextList) -> Result<Table, TableFaul
         }
         places.insert(name, r as u32)?;
     }
-    Ok(table_of(built))
+    Ok(table_of(alloc, built)?)
 }
 
 /// Rows mean a table exactly where they have no fault. It does nothing; its clause is the law.

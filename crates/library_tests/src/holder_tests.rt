@@ -3,9 +3,10 @@ use crate::answers::crosses;
 use seqs::{Arc, Box, Seq, new_seq};
 use std::alloc::{AllocError, Global};
 use std::cmp::Ordering;
+use std::hash::{DefaultHasher, Hash, Hasher};
 use std::test::Fail;
 
-#[derive(PartialEq, Eq, PartialOrd, Ord, Drop)]
+#[derive(PartialEq, Eq, PartialOrd, Ord, Hash, Drop)]
 enum Tree {
     Leaf(u32),
     Over(Box<Tree>),
@@ -61,6 +62,23 @@ fn trees_are_compared_by_what_they_hold(rt: HostRuntime) -> Result<(), Fail> {
     let row = row(rt.alloc(), low, high)?;
     assert_eq!(rt; row.cmp(&Tree::Leaf(9)), Ordering::Greater);
     crosses(&row);
+    Ok(())
+}
+
+fn hash_of<T: Hash>(value: &T) -> u64 {
+    let mut state = DefaultHasher::new();
+    value.hash(&mut state);
+    state.finish()
+}
+
+#[test]
+fn trees_made_apart_hash_alike(rt: HostRuntime) -> Result<(), Fail> {
+    let low = over(rt.alloc(), 3)?;
+    let again = over_again(rt.alloc(), 3)?;
+    assert!(rt; hash_of(&low) == hash_of(&again));
+    let row = row(rt.alloc(), low, again)?;
+    assert!(rt; hash_of(&row) != hash_of(&Tree::Leaf(3)));
+    assert!(rt; hash_of(&Arc::new(rt.alloc(), Tree::Leaf(3))?) == hash_of(&Tree::Leaf(3)));
     Ok(())
 }
 

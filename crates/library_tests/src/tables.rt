@@ -22,7 +22,7 @@ pub fn point(alloc: Global, name: Name) -> Result<Table, AllocError> {
         dim: 0,
         faces: new_seq(alloc),
     })?;
-    Ok(table_of(rows))
+    table_of(alloc, rows)
 }
 
 /// The table of two vertices.
@@ -40,7 +40,7 @@ pub fn two_points(alloc: Global, a: Name, b: Name) -> Result<Table, AllocError>
         dim: 0,
         faces: new_seq(alloc),
     })?;
-    Ok(table_of(rows))
+    table_of(alloc, rows)
 }
 
 /// The circle bundle of these values over a table.

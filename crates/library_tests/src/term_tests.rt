@@ -2,6 +2,7 @@ use crate::answers::{crosses, is};
 use crate::tables::{bundle, named, point};
 use seqs::{Box, new_seq};
 use std::alloc::{AllocError, Global};
+use std::hash::{DefaultHasher, Hash, Hasher};
 use std::test::Fail;
 use term_lang::{FaceText, FaceTextList, RowText, RowTextList, Term, copy_table, copy_term, share};
 
@@ -48,6 +49,30 @@ fn a_copy_of_a_term_equals_it(rt: HostRuntime) -> Result<(), Fail> {
     let term = term_of_each_shape(rt.alloc())?;
     assert!(rt; is(copy_term(rt.alloc(), &term), &term));
     assert!(rt; term != Term::KZ1);
+    Ok(())
+}
+
+fn hash_of(term: &Term) -> u64 {
+    let mut state = DefaultHasher::new();
+    term.hash(&mut state);
+    state.finish()
+}
+
+#[test]
+fn terms_made_apart_are_equal_and_hash_alike(rt: HostRuntime) -> Result<(), Fail> {
+    let term = term_of_each_shape(rt.alloc())?;
+    let again = term_of_each_shape(rt.alloc())?;
+    assert!(rt; term == again);
+    assert!(rt; hash_of(&term) == hash_of(&again));
+    Ok(())
+}
+
+#[test]
+fn tables_of_other_names_differ_and_so_do_their_hashes(rt: HostRuntime) -> Result<(), Fail> {
+    let table = Term::Table(point(rt.alloc(), named(b"v"))?);
+    let other = Term::Table(point(rt.alloc(), named(b"w"))?);
+    assert!(rt; table != other);
+    assert!(rt; hash_of(&table) != hash_of(&other));
     Ok(())
 }
 

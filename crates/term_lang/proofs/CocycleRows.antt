@@ -10,7 +10,7 @@ use Rattle.std.proofs.lemmas.List.{length-map}
 use Rattle.std.proofs.Math.Nat.{zero-div}
 use Rattle.simp_ops.specs.Bits.{bit, places, mask_word}
 use Rattle.simp_ops.proofs.MaskWords.{places_told}
-use Rattle.spaces.specs.Tables.{Table as TableRows, entry, row_at, row_face, listed_face}
+use Rattle.spaces.specs.Tables.{Table as TableRows, entry, row_at, listed_face}
 use Rattle.spaces.specs.Nerves.{integers}
 use Rattle.spaces.specs.Cocycles.{cocycle}
 use Rattle.spaces.specs.Allowed.{IsTable, IsCocycle, face_count}

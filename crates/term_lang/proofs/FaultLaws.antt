@@ -1,10 +1,9 @@
 -- A space without a fault is an allowed one, node by node, and what the check of a term answers from what it answers for the parts.
-use Rattle.std.proofs.Common.{◌≡◌, ℕ, suc, ◌<◌, ◌≤◌, Bool, true, false, cond, ◌==◌, max, List, Option, Some, None, ◌⊎◌, inl, inr, refl, sym, ◌∙◌, ap, subst, arith, ℤ, true≢false}
+use Rattle.std.proofs.Common.{◌≡◌, ℕ, ◌<◌, ◌≤◌, Bool, true, false, ◌==◌, List, Option, Some, None, refl, sym, ◌∙◌, ap, subst, arith, ℤ, true≢false}
 use Rattle.std.specs.Prelude.{Ok, Err, IsOk, is_ok, min, nat_lt, not, ◌||◌, ◌↔◌}
 use Rattle.std.specs.declared.result.Result.{Result}
 use Rattle.std.specs.Option.{option_or}
 use Rattle.std.specs.Result.{result_err}
-use Rattle.std.proofs.lemmas.Bool.{cases_lt}
 use Rattle.std.proofs.lemmas.Bool.Decides.{Decides-eqb, nat_tests}
 use Rattle.spaces.specs.Tables.{Table as TableRows}
 use Rattle.spaces.specs.Spaces.{Space, table, sphere, product, suspension, kz1, bundle, loops, paths, set_of}

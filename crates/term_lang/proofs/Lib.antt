@@ -17,3 +17,6 @@ pub mod CocycleRows
 pub mod FaultLaws
 pub mod TermAnswers
 pub mod TwoPoints
+pub mod CodeLaws
+pub mod TermEquals
+pub mod TermInputs

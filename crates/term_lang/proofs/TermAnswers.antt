@@ -1,10 +1,10 @@
 -- What the check of a term answers, kind by kind, from its answers for the parts.
-use Rattle.std.proofs.Common.{◌≡◌, ℕ, ◌≤◌, ◌<◌, suc, max, List, ℤ, None, sym, ◌∙◌, ap, subst, arith}
-use Rattle.std.specs.Prelude.{Ok, Err, IsOk, ◌↔◌}
+use Rattle.std.proofs.Common.{◌≡◌, ℕ, ◌≤◌, suc, max, List, ℤ, None, sym, ◌∙◌, ap, arith}
+use Rattle.std.specs.Prelude.{Ok, Err}
 use Rattle.std.specs.declared.result.Result.{Result}
 use Rattle.std.specs.Option.{option_or}
 use Rattle.std.specs.Result.{result_err}
-use Rattle.spaces.specs.Spaces.{Space, table, sphere, product, suspension, kz1, bundle, loops, paths}
+use Rattle.spaces.specs.Spaces.{table, sphere, product, suspension, kz1, bundle, loops, paths}
 use Rattle.spaces.specs.Allowed.{IsAllowed, IsTable, space_depth}
 use Rattle.term_lang.specs.declared.tables.Row.{Row}
 use Rattle.term_lang.specs.declared.terms.Term.{Term}

@@ -1,18 +1,17 @@
 -- The depth, the vertices and the low of each kind of term, and that lows are small.
-use Rattle.std.proofs.Common.{◌≡◌, ℕ, zero, suc, ◌+◌, ◌-◌, ◌*◌, take, get_or, lit≤, ◌<◌, ◌≤◌, max, List, [], ◌∷◌, map, length, Option, Some, None, ◌⊎◌, inl, inr, refl, sym, ◌∙◌, ap, subst, arith, ℤ, cond, add-one}
+use Rattle.std.proofs.Common.{◌≡◌, ℕ, zero, suc, ◌+◌, ◌-◌, ◌*◌, take, get_or, ◌<◌, ◌≤◌, max, List, [], ◌∷◌, length, Option, Some, None, ◌⊎◌, inl, inr, refl, sym, ◌∙◌, ap, subst, arith, ℤ, add-one}
 use Rattle.std.proofs.Math.Nat.{mul-suc, mul_comm}
-use Rattle.std.specs.Prelude.{min, ◌==◌}
+use Rattle.std.specs.Prelude.{min}
 use Rattle.std.proofs.lemmas.Bool.{cases_lt}
 use Rattle.std.specs.Option.{option_map, IfSome}
-use Rattle.std.specs.List.{count_by}
 use Rattle.spaces.specs.Tables.{Table as TableRows, row_at}
 use Rattle.spaces.specs.Spaces.{Space, table, sphere, product, suspension, kz1, bundle, loops, paths, kzm1, cyclic_bundle}
-use Rattle.spaces.specs.Allowed.{IsAllowed, Admits, IsTable, space_depth}
+use Rattle.spaces.specs.Allowed.{IsAllowed, Admits, space_depth}
 use Rattle.spaces.specs.Counts.{vertex_count, vertex_rows, lesser, row_low, table_low, low_of}
 use Rattle.term_lang.specs.declared.tables.Row.{Row}
 use Rattle.term_lang.specs.declared.terms.Term.{Term}
 use Rattle.term_lang.specs.declared.terms.Term.TheVariants.{Table, Sphere, Product, Suspension, KZ1, Bundle, Loop, Path}
-use Rattle.term_lang.specs.Rows.{row_of, rows_of}
+use Rattle.term_lang.specs.Rows.{rows_of}
 use Rattle.term_lang.specs.SpaceOf.{space_of}
 use Rattle.term_lang.proofs.SpacesOfTerms.{space-Table, space-Sphere, space-Product, space-Suspension, space-KZ1, space-Bundle, space-Loop, space-Path}
 

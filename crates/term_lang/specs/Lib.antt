@@ -8,3 +8,7 @@ pub mod Quote
 pub mod NormalForms
 pub mod TermOrder
 pub mod TermFaults
+pub mod OneTerm
+pub mod Codes
+pub mod Sheets
+pub mod TermHash

@@ -62,6 +62,10 @@ kind_of t = kind_in (out-Term t)
 abbrev pub term_cmp : Term → Term → Ordering
 term_cmp = on forest forest_cmp
 
+-- of tables alone: row by row
+abbrev pub table_cmp : List Row → List Row → Ordering
+table_cmp = on rows_forest forest_cmp
+
 -- ---- the laws of the comparisons
 
 pub term_total : IsTotalOrder term_cmp
@@ -81,3 +85,23 @@ term_equiv = eq_by_cmp_equiv term_total
 
 pub term_per : IsPartialEquivalence (eq_by_cmp term_cmp)
 term_per = partial_equiv_from_equiv term_equiv
+
+-- ---- the same of tables
+
+pub table_total : IsTotalOrder table_cmp
+table_total = on_total rows_forest forest_total
+
+pub table_agrees : Agrees (as_partial_cmp table_cmp) table_cmp
+table_agrees t u = refl
+
+pub table_ties : (t u : List Row) → eq_by_cmp table_cmp t u ≡ eq_by_cmp table_cmp t u
+table_ties t u = refl
+
+pub table_po : IsPartialOrder (eq_by_cmp table_cmp) (as_partial_cmp table_cmp)
+table_po = partial_order_from_total table_total
+
+pub table_equiv : IsEquivalence (eq_by_cmp table_cmp)
+table_equiv = eq_by_cmp_equiv table_total
+
+pub table_per : IsPartialEquivalence (eq_by_cmp table_cmp)
+table_per = partial_equiv_from_equiv table_equiv

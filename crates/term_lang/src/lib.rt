@@ -2,7 +2,10 @@
 #![tactic(auto)]
 
 mod check;
+mod codes;
+mod equal;
 mod faults;
+mod hashes;
 mod laws;
 mod measures;
 mod names;

@@ -1,8 +1,8 @@
-// The order of terms: by kind, then by contents.
+// The order of tables, and that of terms: by kind, then by contents.
 ghost use Rattle.std.specs.Prelude.{◌≡◌};
 ghost use Rattle.cells.specs.Forests.{forest_cmp};
 ghost use Rattle.cells.specs.Order.{ints_forest};
-ghost use Rattle.term_lang.specs.TermOrder.{kind_of, rows_forest};
+ghost use Rattle.term_lang.specs.TermOrder.{kind_of};
 
 use crate::tables::Table;
 use crate::terms::Term;
@@ -10,7 +10,7 @@ use cells::IntList;
 use std::cmp::Ordering;
 
 // The place of a term's variant in the order of the enum.
-fn kind(t: &Term) -> u8
+pub(crate) fn kind(t: &Term) -> u8
     ensures { result ≡ kind_of t.now }
 {
     match t {
@@ -25,16 +25,42 @@ fn kind(t: &Term) -> u8
     }
 }
 
-fn cmp_tables(a: &Table, b: &Table) -> Ordering
-    ensures { result ≡ forest_cmp (rows_forest a.now) (rows_forest b.now) }
-{
-    a.rows().as_slice().cmp(b.rows().as_slice())
-}
-
 fn cmp_values(a: &IntList, b: &IntList) -> Ordering
     ensures { result ≡ forest_cmp (ints_forest a.now) (ints_forest b.now) }
 {
     a.cmp(b)
+}
+
+impl Ord for Table {
+    ghost use Rattle.term_lang.specs.TermOrder.{table_cmp, table_total, table_agrees, table_ties};
+
+    ghost cmp = { table_cmp };
+
+    ghost total = { table_total };
+
+    ghost matches_partial_cmp = { table_agrees };
+
+    ghost matches_eq = { table_ties };
+
+    fn cmp(&self, other: &Table) -> Ordering {
+        if self == other {
+            return Ordering::Equal;
+        }
+        self.rows().as_slice().cmp(other.rows().as_slice())
+    }
+}
+
+impl PartialOrd for Table {
+    ghost use Rattle.std.specs.Ordering.{as_partial_cmp};
+    ghost use Rattle.term_lang.specs.TermOrder.{table_cmp, table_po};
+
+    ghost partial_cmp = { as_partial_cmp table_cmp };
+
+    ghost laws = { table_po };
+
+    fn partial_cmp(&self, other: &Table) -> Option<Ordering> {
+        Some(self.cmp(other))
+    }
 }
 
 impl Ord for Term {
@@ -54,7 +80,7 @@ impl Ord for Term {
             return by_kind;
         }
         match (self, other) {
-            (Term::Table(a), Term::Table(b)) => cmp_tables(a, b),
+            (Term::Table(a), Term::Table(b)) => a.cmp(b),
             (Term::Sphere(m), Term::Sphere(n)) => m.cmp(n),
             (Term::Product(a, x), Term::Product(b, y)) => match a.get().cmp(b.get()) {
                 Ordering::Equal => x.get().cmp(y.get()),
@@ -62,7 +88,7 @@ impl Ord for Term {
             },
             (Term::Suspension(a), Term::Suspension(b)) => a.get().cmp(b.get()),
             (Term::KZ1, Term::KZ1) => Ordering::Equal,
-            (Term::Bundle(a, v), Term::Bundle(b, w)) => cmp_tables(a, b).then(cmp_values(v, w)),
+            (Term::Bundle(a, v), Term::Bundle(b, w)) => a.cmp(b).then(cmp_values(v, w)),
             (Term::Loop(a), Term::Loop(b)) => a.get().cmp(b.get()),
             (Term::Path(a), Term::Path(b)) => a.get().cmp(b.get()),
             _ => by_kind,
@@ -81,23 +107,4 @@ impl PartialOrd for Term {
     fn partial_cmp(&self, other: &Term) -> Option<Ordering> {
         Some(self.cmp(other))
     }
-}
-
-impl PartialEq for Term {
-    ghost use Rattle.std.specs.Ordering.{eq_by_cmp};
-    ghost use Rattle.term_lang.specs.TermOrder.{term_cmp, term_per};
-
-    ghost eq = { eq_by_cmp term_cmp };
-
-    ghost laws = { term_per };
-
-    fn eq(&self, other: &Term) -> bool {
-        self.cmp(other).is_eq()
-    }
-}
-
-impl Eq for Term {
-    ghost use Rattle.term_lang.specs.TermOrder.{term_equiv};
-
-    ghost laws = { term_equiv };
 }

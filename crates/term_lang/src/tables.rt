@@ -1,11 +1,13 @@
 // Tables: lists of rows, each a non-degenerate simplex with its faces.
-ghost use Rattle.std.specs.Prelude.{◌≡◌, [], ◌∷◌, ◌++◌, ◌<◌, ◌↔◌, length, slice_get, IsSome, OnOk, OnErr};
+ghost use Rattle.std.specs.Prelude.{◌≡◌, [], ◌∷◌, ◌++◌, ◌<◌, ◌↔◌, length, slice_get, IsSome, IfOk, OnOk, OnErr};
 ghost use Rattle.std.specs.Option.{option_copied};
 ghost use Rattle.spaces.specs.Allowed.{IsTable};
 ghost use Rattle.term_lang.specs.Rows.{rows_of};
+ghost use Rattle.term_lang.specs.Codes.{code_of, mark_of};
 
+use crate::codes::{code_rows, mark_code};
 use crate::names::Name;
-use seqs::{Seq, new_seq};
+use seqs::{Arc, Seq, new_seq};
 use simp_ops::Degens;
 use std::alloc::{AllocError, Global};
 use std::marker::Model;
@@ -86,35 +88,46 @@ impl RowList {
     }
 }
 
+// The rows of a table and, made once from them, what tells it from others.
+#[derive(Debug, Drop)]
+struct Sheet {
+    rows: RowList,
+    // Numbers that tell the rows.
+    code: Seq<u64>,
+    // One number that the code determines.
+    mark: u64,
+}
+
 /// A table: a list of 1 to 256 rows of different names, each of dimension at most 16, with one more
 /// face than its dimension where that is positive. The faces are degeneracies of earlier rows, and
-/// the law between two faces holds at each row (May, Simplicial Objects, chapter I).
-#[derive(Debug, PartialEq, Eq, PartialOrd, Ord, Drop)]
+/// the law between two faces holds at each row (May, Simplicial Objects, chapter I). Copies of a
+/// table share its rows.
+#[derive(Debug, Drop)]
 pub struct Table {
-    rows: RowList,
+    sheet: Arc<Sheet>,
 }
 
 impl Model for Table {
     ghost use Rattle.std.specs.Prelude.{List};
-    ghost use Rattle.spaces.specs.Allowed.{IsTable};
     ghost use Rattle.term_lang.specs.declared.tables.Row.{Row};
-    ghost use Rattle.term_lang.specs.Rows.{rows_of};
+    ghost use Rattle.term_lang.specs.Sheets.{IsSheet};
 
     ghost Value = { List Row };
 
-    ghost view = { λ table. table.rows };
+    ghost view = { λ table. table.sheet.rows };
 
-    ghost invariant = { λ table. IsTable (rows_of table.rows) };
-
-    ghost inverse = { λ rows. record { rows = rows } };
+    ghost invariant = { λ table. IsSheet table.sheet };
 }
 
-/// The table of these rows, which are of the form that a table asks for.
-pub fn table_of(rows: RowList) -> Table
+/// The table of these rows, which are of the form that a table asks for. Only memory can be wanting.
+pub fn table_of(alloc: Global, rows: RowList) -> Result<Table, AllocError>
     requires { IsTable (rows_of rows) }
-    ensures { result ≡ rows }
+    ensures { IfOk result (λ table. table ≡ rows) }
 {
-    Table { rows }
+    let code = code_rows(alloc, &rows)?;
+    let mark = mark_code(&code);
+    let sheet = Arc::new(alloc, Sheet { rows, code, mark })?;
+    Ok(Table { sheet })
 }
 
 impl Table {
@@ -123,6 +136,29 @@ impl Table {
         ensures rows { result.now ≡ self.now }
         ensures form { IsTable (rows_of self.now) }
     {
-        &self.rows
+        &self.sheet.get().rows
+    }
+
+    // The numbers that tell the rows.
+    pub(crate) fn code(&self) -> &[u64]
+        ensures code { result.now ≡ code_of self.now }
+        ensures form { IsTable (rows_of self.now) }
+    {
+        self.sheet.get().code.as_slice()
+    }
+
+    // One number that the rows determine.
+    pub(crate) fn mark(&self) -> u64
+        ensures { result ≡ mark_of (code_of self.now) }
+    {
+        self.sheet.get().mark
+    }
+
+    // The same table, by the same rows in memory.
+    pub(crate) fn shared(&self) -> Result<Table, AllocError>
+        ensures { IfOk result (λ copy. copy ≡ self.now) }
+    {
+        let sheet = self.sheet.clone()?;
+        Ok(Table { sheet })
     }
 }

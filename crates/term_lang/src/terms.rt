@@ -1,7 +1,7 @@
 // Terms, which name spaces, and their copies.
 ghost use Rattle.std.specs.Prelude.{◌≡◌, IfOk};
 
-use crate::tables::{FaceList, Row, RowList, Table, table_of};
+use crate::tables::Table;
 use cells::IntList;
 use seqs::{Arc, Box};
 use std::alloc::{AllocError, Global};
@@ -29,30 +29,14 @@ pub enum Term {
     Path(Box<Term>),
 }
 
-fn copy_row(alloc: Global, row: &Row) -> Result<Row, AllocError>
-    ensures { IfOk result (λ copy. copy ≡ row.now) }
-{
-    let faces: FaceList = row.faces.copied(alloc)?;
-    Ok(Row {
-        name: row.name,
-        dim: row.dim,
-        faces,
-    })
-}
-
-/// A copy of a table.
-pub fn copy_table(alloc: Global, table: &Table) -> Result<Table, AllocError>
+/// A copy of a table, which shares its rows, so that the allocator is not asked.
+pub fn copy_table(_alloc: Global, table: &Table) -> Result<Table, AllocError>
     ensures { IfOk result (λ copy. copy ≡ table.now) }
 {
-    let mut copy = RowList::new(alloc);
-    let rows = table.rows();
-    for row in rows.as_slice() {
-        copy.push(copy_row(alloc, row)?)?;
-    }
-    Ok(table_of(copy))
+    table.shared()
 }
 
-/// A copy of a term.
+/// A copy of a term, which shares the rows of its tables.
 pub fn copy_term(alloc: Global, t: &Term) -> Result<Term, AllocError>
     ensures { IfOk result (λ copy. copy ≡ t.now) }
 {

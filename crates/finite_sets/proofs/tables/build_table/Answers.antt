@@ -40,7 +40,7 @@ table_of-requires c = table_built c.args.rows.now c.loop-r.r c.loop-r.built c.lo
 
 pub returns-clause-table : goal.returns-clause-table
 returns-clause-table c =
-    ap rows_of c.table_of.ensures ∙ all-built c.args.rows.now c.loop-r.r c.loop-r.built c.loop-r.places c.loop-r.invariant (omega arith)
+    ap rows_of c.in_ok-table_of.ensures ∙ all-built c.args.rows.now c.loop-r.r c.loop-r.built c.loop-r.places c.loop-r.invariant (omega arith)
 
 pub returns-clause-none : goal.returns-clause-none
 returns-clause-none c = none_built c.args.rows.now c.loop-r.r c.loop-r.built c.loop-r.places c.loop-r.invariant (sym c.list_fault.ensures ∙ c.in_default.is) (omega arith)

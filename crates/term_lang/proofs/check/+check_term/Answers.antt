@@ -1,7 +1,7 @@
 use Rattle.std.proofs.Common.{refl}
 use Rattle.std.specs.Prelude.{Ok}
 use Rattle.std.proofs.lemmas.Result.{err_from_is_err_and}
-use Rattle.term_lang.proofs.TermAnswers.{on_table, on_sphere, on_kz1, on_bundle, on_left, on_right, product_depth, on_product, on_suspended, on_looped, on_based, allowed_part, suspension_depth, loop_depth, path_depth, on_suspension, on_loop, on_path}
+use Rattle.term_lang.proofs.TermAnswers.{on_table, on_sphere, on_kz1, on_bundle, on_left, on_right, product_depth, on_product, on_suspended, on_looped, on_based, suspension_depth, loop_depth, path_depth, on_suspension, on_loop, on_path}
 use Rattle.term_lang.proofs.check.+check_term.Goals as goal
 
 pub returns-in_err-check_term-in-Product : goal.returns-in_err-check_term-in-Product

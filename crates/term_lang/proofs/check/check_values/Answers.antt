@@ -1,4 +1,4 @@
-use Rattle.std.proofs.Common.{◌≡◌, ◌<◌, ◌∙◌, sym, ap, subst, length, arith, Some}
+use Rattle.std.proofs.Common.{◌<◌, ◌∙◌, sym, ap, subst, length, arith, Some}
 use Rattle.std.proofs.lemmas.List.{length-map}
 use Rattle.term_lang.specs.declared.faults.TermFault.TheVariants.{BadCocycle}
 use Rattle.term_lang.specs.Rows.{row_of, rows_of}

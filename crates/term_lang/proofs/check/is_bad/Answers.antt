@@ -1,4 +1,4 @@
-use Rattle.std.proofs.Common.{◌≡◌, ◌<◌, ◌≤◌, ◌∙◌, sym, ap, length, get_or, arith, rules, SFits, w64, of_z}
+use Rattle.std.proofs.Common.{◌∙◌, sym, ap, get_or, arith, rules, SFits, w64, of_z}
 use Rattle.std.specs.Prelude.{pos, nat_abs}
 use Rattle.std.proofs.lemmas.Int.{to_z-of_z}
 use Rattle.term_lang.specs.Rows.{rows_of}

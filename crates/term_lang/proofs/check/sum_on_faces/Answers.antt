@@ -1,4 +1,4 @@
-use Rattle.std.proofs.Common.{◌≡◌, ◌∙◌, ◌<◌, sym, subst, lit<}
+use Rattle.std.proofs.Common.{◌∙◌, ◌<◌, sym, subst, lit<}
 use Rattle.std.specs.Prelude.{◌+ℤ◌, neg_ℤ}
 use Rattle.spaces.specs.Allowed.{face_count}
 use Rattle.term_lang.proofs.CocycleRows.{four_fit, four_sum}

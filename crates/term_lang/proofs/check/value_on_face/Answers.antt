@@ -1,8 +1,6 @@
-use Rattle.std.proofs.Common.{◌≡◌, ◌<◌, ◌≤◌, ℕ, ℤ, length, get_or, sym, ◌∙◌, ap, subst, rules, SFits, w64}
+use Rattle.std.proofs.Common.{◌<◌, ◌≤◌, length, get_or, sym, ◌∙◌, ap, subst, rules, SFits, w64}
 use Rattle.std.specs.Prelude.{pos, nat_abs}
 use Rattle.std.proofs.lemmas.Int.{to_z-of_z}
-use Rattle.spaces.specs.Tables.{entry, listed_face}
-use Rattle.term_lang.specs.Rows.{rows_of, face_of}
 use Rattle.term_lang.proofs.CocycleRows.{in_faces, within_faces, is_face, entry-get_or, on_face_none, on_face_value, face_row_in, face_row_small}
 use Rattle.term_lang.proofs.check.value_on_face.Goals as goal
 

@@ -1,4 +1,3 @@
-use Rattle.std.proofs.Common.{sym, subst}
 use Rattle.spaces.specs.Counts.{vertex_count}
 use Rattle.spaces.proofs.SpaceVertices.{space_vertices}
 use Rattle.term_lang.specs.SpaceOf.{space_of}

@@ -11,11 +11,11 @@ returns-then-is_ne t c =
 
 pub returns-in-Table-Table : goal.returns-in-Table-Table
 returns-in-Table-Table t c =
-    by_contents c.args.self.now c.args.other.now _ _ _ c.in-Table-Table.is-0 c.in-Table-Table.is-1 (c.cmp_tables.ensures ∙ sym (tables c.in-Table-Table.a c.in-Table-Table.b))
+    by_contents c.args.self.now c.args.other.now _ _ _ c.in-Table-Table.is-0 c.in-Table-Table.is-1 (c.cmp.ensures ∙ sym (tables c.in-Table-Table.a c.in-Table-Table.b))
 
 pub returns-in-Sphere-Sphere : goal.returns-in-Sphere-Sphere
 returns-in-Sphere-Sphere t c =
-    by_contents c.args.self.now c.args.other.now _ _ _ c.in-Sphere-Sphere.is-0 c.in-Sphere-Sphere.is-1 (c.cmp.ensures ∙ sym (spheres c.in-Sphere-Sphere.m c.in-Sphere-Sphere.n))
+    by_contents c.args.self.now c.args.other.now _ _ _ c.in-Sphere-Sphere.is-0 c.in-Sphere-Sphere.is-1 (c.cmp-in-Sphere-Sphere.ensures ∙ sym (spheres c.in-Sphere-Sphere.m c.in-Sphere-Sphere.n))
 
 pub returns-in-Equal : goal.returns-in-Equal
 returns-in-Equal t c =
@@ -47,7 +47,7 @@ returns-in-KZ1-KZ1 t c = by_contents c.args.self.now c.args.other.now _ _ _ c.in
 pub returns-in-Bundle-Bundle : goal.returns-in-Bundle-Bundle
 returns-in-Bundle-Bundle t c =
     by_contents c.args.self.now c.args.other.now _ _ _ c.in-Bundle-Bundle.is-0 c.in-Bundle-Bundle.is-1
-    (c.then.ensures ∙ (λ i. ordering_then (c.cmp_tables-in-Bundle-Bundle.ensures i) (c.cmp_values.ensures i))
+    (c.then.ensures ∙ (λ i. ordering_then (c.cmp-in-Bundle-Bundle.ensures i) (c.cmp_values.ensures i))
     ∙ sym (bundles c.in-Bundle-Bundle.a c.in-Bundle-Bundle.b c.in-Bundle-Bundle.v c.in-Bundle-Bundle.w))
 
 pub returns-in-Loop-Loop : goal.returns-in-Loop-Loop
