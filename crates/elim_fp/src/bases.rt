@@ -17,7 +17,7 @@ use thiserror::Error;
 pub enum SolveFault {
     /// The row is not in the span: the first place that is not 0 after reduction.
     #[error("NotIn")]
-    NotIn(u32),
+    NotIn(usize),
     /// Want of memory.
     #[error("Memory")]
     Memory,
@@ -29,7 +29,7 @@ pub fn echelon(alloc: Global, m: &Matrix) -> Result<Echelon, AllocError>
     ensures width { IfOk result (λ e. e.width ≡ m.now.width) }
     ensures rows { IfOk result (λ e. e.rows ≡ reduced_basis (number m.now.prime) m.now.width (in_span (number m.now.prime) m.now.width m.now.rows)) }
 {
-    let rows = reduce_rows(alloc, m.prime(), m.width() as usize, m.rows().as_slice())?;
+    let rows = reduce_rows(alloc, m.prime(), m.width(), m.rows().as_slice())?;
     Ok(basis_of(m.prime(), m.width(), FpRowList::from_rows(rows)))
 }
 
@@ -38,7 +38,7 @@ pub fn rank(alloc: Global, m: &Matrix) -> Result<usize, AllocError>
     ensures { IfOk result (λ n. n ≡ length (reduced_basis (number m.now.prime) m.now.width (in_span (number m.now.prime) m.now.width m.now.rows))) }
 {
     let rows = m.rows();
-    let width = m.width() as usize;
+    let width = m.width();
     let table = table_of(alloc, m.prime(), width, rows.as_slice())?;
     Ok(nonzero_count(&table, width))
 }
@@ -57,7 +57,7 @@ pub fn solve(alloc: Global, e: &Echelon, v: &FpRow) -> Result<FpRow, SolveFault>
     };
     let place = rest.lead();
     if place < width {
-        return Err(SolveFault::NotIn(place as u32));
+        return Err(SolveFault::NotIn(place));
     }
     match entries_at_leads(alloc, e.rows().as_slice(), v) {
         Ok(row) => Ok(row),

@@ -18,14 +18,13 @@ use std::alloc::{AllocError, Global};
 /// row r_i, for which v_1 r_1 + .. + v_n r_n = 0. It is the kernel of the linear map that takes the unit
 /// vectors to the rows.
 pub fn relations(alloc: Global, m: &Matrix) -> Result<Echelon, AllocError>
-    requires { length m.now.rows < 2 ^ 32 }
     ensures prime { IfOk result (λ e. e.prime ≡ m.now.prime) }
     ensures width { IfOk result (λ e. e.width ≡ length m.now.rows) }
     ensures rows { IfOk result (λ e. e.rows ≡ reduced_basis (number m.now.prime) (length m.now.rows) (in_kernel (number m.now.prime) m.now.width m.now.rows)) }
 {
     let rows = m.rows().as_slice();
-    let basis = relation_rows(alloc, m.prime(), m.width() as usize, rows)?;
-    Ok(basis_of(m.prime(), rows.len() as u32, FpRowList::from_rows(basis)))
+    let basis = relation_rows(alloc, m.prime(), m.width(), rows)?;
+    Ok(basis_of(m.prime(), rows.len(), FpRowList::from_rows(basis)))
 }
 
 /// The reduced echelon basis of all vectors v with m v = 0. They are the relations between the columns.
@@ -35,7 +34,7 @@ pub fn kernel(alloc: Global, m: &Matrix) -> Result<Echelon, AllocError>
     ensures rows { IfOk result (λ e. e.rows ≡ reduced_basis (number m.now.prime) m.now.width (in_null_space (number m.now.prime) m.now.rows)) }
 {
     let rows = m.rows().as_slice();
-    let basis = null_rows(alloc, m.prime(), m.width() as usize, rows)?;
+    let basis = null_rows(alloc, m.prime(), m.width(), rows)?;
     Ok(basis_of(m.prime(), m.width(), FpRowList::from_rows(basis)))
 }
 

@@ -8,30 +8,30 @@ use crate::rows::FpRowList;
 use fp_field::Prime;
 use std::marker::Model;
 
-/// A matrix over F_p: rows of one width.
+/// A matrix over F_p: rows of one width, which is below 2^63.
 #[derive(Debug, Drop)]
 pub struct Matrix {
     prime: Prime,
-    width: u32,
+    width: usize,
     rows: FpRowList,
 }
 
 impl Model for Matrix {
-    ghost use Rattle.std.specs.Prelude.{All};
+    ghost use Rattle.std.specs.Prelude.{◌<◌, ◌^◌, All};
     ghost use Rattle.elim_fp.specs.Rows.{DenseRows, vectors_of, IsRow};
 
     ghost Value = { DenseRows };
 
     ghost view = { λ m. record { prime = m.prime; width = m.width; rows = vectors_of m.rows } };
 
-    ghost invariant = { λ m. All (IsRow m.prime m.width) m.rows };
+    ghost invariant = { λ m. (m.width < 2 ^ 63) × All (IsRow m.prime m.width) m.rows };
 }
 
-/// A reduced echelon basis of a subspace of the vectors of one width.
+/// A reduced echelon basis of a subspace of the vectors of one width, which is below 2^63.
 #[derive(Debug, Drop)]
 pub struct Echelon {
     prime: Prime,
-    width: u32,
+    width: usize,
     rows: FpRowList,
 }
 
@@ -45,12 +45,13 @@ impl Model for Echelon {
 
     ghost view = { λ e. record { prime = e.prime; width = e.width; rows = vectors_of e.rows } };
 
-    ghost invariant = { λ e. (e.width < 2 ^ 32) × IsReducedEchelon (number e.prime) e.width (vectors_of e.rows) × All (λ r. r.prime ≡ e.prime) e.rows };
+    ghost invariant = { λ e. (e.width < 2 ^ 63) × IsReducedEchelon (number e.prime) e.width (vectors_of e.rows) × All (λ r. r.prime ≡ e.prime) e.rows };
 }
 
 /// The matrix of these rows.
-pub fn matrix_of(p: Prime, width: u32, rows: FpRowList) -> Matrix
-    requires { All (IsRow p width) rows }
+pub fn matrix_of(p: Prime, width: usize, rows: FpRowList) -> Matrix
+    requires narrow { width < 2 ^ 63 }
+    requires rows { All (IsRow p width) rows }
     ensures prime { result.prime ≡ p }
     ensures width { result.width ≡ width }
     ensures rows { result.rows ≡ vectors_of rows }
@@ -71,8 +72,9 @@ impl Matrix {
     }
 
     /// The width of the rows.
-    pub fn width(&self) -> u32
-        ensures { result ≡ self.now.width }
+    pub fn width(&self) -> usize
+        ensures width { result ≡ self.now.width }
+        ensures narrow { self.now.width < 2 ^ 63 }
     {
         self.width
     }
@@ -87,7 +89,8 @@ impl Matrix {
 }
 
 /// The basis of these rows, which are a reduced echelon list.
-pub fn basis_of(p: Prime, width: u32, rows: FpRowList) -> Echelon
+pub fn basis_of(p: Prime, width: usize, rows: FpRowList) -> Echelon
+    requires narrow { width < 2 ^ 63 }
     requires primes { All (λ r. r.prime ≡ p) rows }
     requires echelon { IsReducedEchelon (number p) width (vectors_of rows) }
     ensures prime { result.prime ≡ p }
@@ -110,15 +113,16 @@ impl Echelon {
     }
 
     /// The width of the rows.
-    pub fn width(&self) -> u32
-        ensures { result ≡ self.now.width }
+    pub fn width(&self) -> usize
+        ensures width { result ≡ self.now.width }
+        ensures narrow { self.now.width < 2 ^ 63 }
     {
         self.width
     }
 
     /// The rows in order of leading places.
     pub fn rows(&self) -> &FpRowList
-        ensures narrow { self.now.width < 2 ^ 32 }
+        ensures narrow { self.now.width < 2 ^ 63 }
         ensures rows { vectors_of result.now ≡ self.now.rows }
         ensures primes { All (λ r. r.prime ≡ self.now.prime) result.now }
         ensures echelon { IsReducedEchelon (number self.now.prime) self.now.width self.now.rows }

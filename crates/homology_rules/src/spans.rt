@@ -1,5 +1,5 @@
 // Vectors of cycles over small cells.
-ghost use Rattle.std.specs.Prelude.{◌≡◌, ◌+◌, ◌<◌, ◌^◌, IfOk, All, length, map};
+ghost use Rattle.std.specs.Prelude.{◌≡◌, IfOk, All, length, map};
 ghost use Rattle.std.specs.List.Sorted.{IsStrictlySortedBy};
 ghost use Rattle.fp_field.specs.Field.{number};
 ghost use Rattle.echelons.specs.Echelon.{in_span, reduced_basis};
@@ -27,7 +27,6 @@ pub fn coordinate_rows(
 ) -> Result<Vec<FpRow>, AllocError>
     requires rising { IsStrictlySortedBy small_cmp cells.now }
     requires chains { All (λ v. HasSmallOver p v.outcome) chains.now }
-    requires fits { length cells.now < 2 ^ 32 }
     ensures each { IfOk result (λ l. All (IsRow p (length cells.now)) l.items) }
     ensures rows { IfOk result (λ l. vectors_of l.items ≡ map (λ d. coordinates_over small_cmp (number p) cells.now d) (small_chains chains.now)) }
 {
@@ -48,14 +47,13 @@ pub fn span_basis(
 ) -> Result<Echelon, AllocError>
     requires rising { IsStrictlySortedBy small_cmp cells.now }
     requires chains { All (λ v. HasSmallOver p v.outcome) chains.now }
-    requires fits { length cells.now < 2 ^ 32 }
     ensures prime { IfOk result (λ e. e.prime ≡ p) }
     ensures width { IfOk result (λ e. e.width ≡ length cells.now) }
     ensures rows { IfOk result (λ e. e.rows ≡ reduced_basis (number p) (length cells.now) (in_span (number p) (length cells.now) (map (λ d. coordinates_over small_cmp (number p) cells.now d) (small_chains chains.now)))) }
 {
     let rows = coordinate_rows(alloc, p, cells, chains)?;
     let rows = FpRowList::from_rows(rows);
-    echelon(alloc, &matrix_of(p, cells.len() as u32, rows))
+    echelon(alloc, &matrix_of(p, cells.len(), rows))
 }
 
 /// The vectors of cycles over small cells that rise: `chains` are their differentials, and `above` those of
@@ -76,17 +74,10 @@ pub fn cycle_rows(
     ensures width { IfOk result (λ e. e.width ≡ length cells.now) }
     ensures rows { IfOk result (λ e. e.rows ≡ cycle_vectors_over small_cmp (number p) cells.now (small_chains chains.now) (small_chains above.now)) }
 {
-    let most = u32::MAX as usize;
-    if cells.len() > most {
-        return Err(AllocError);
-    }
     let span = span_basis(alloc, p, cells, above)?;
     let marks = leading_marks(alloc, span.rows().as_slice(), cells.len())?;
     let columns = cells_in(alloc, chains)?;
-    if columns.len() > most - chains.len() {
-        return Err(AllocError);
-    }
     let width = columns.len() + chains.len();
     let rows = kernel_rows_of(alloc, p, &columns, &marks, chains)?;
-    relations(alloc, &matrix_of(p, width as u32, rows))
+    relations(alloc, &matrix_of(p, width, rows))
 }

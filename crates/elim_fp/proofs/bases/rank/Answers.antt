@@ -13,7 +13,7 @@ returns c =
     let given = c.as_slice.result.now in
     let rows : vectors_of given ≡ c.args.m.now.rows = ap vectors_of c.as_slice.ensures ∙ c.rows-rows.ensures.rows in
     let each : All (IsRow p w) given =
-    subst (All (IsRow p w)) (sym c.as_slice.ensures) (subst (λ q. All (IsRow q w) c.rows-rows.result.now) (sym c.prime.ensures) (subst (λ n. All (IsRow c.args.m.now.prime n) c.rows-rows.result.now) (sym c.width-width.ensures) c.rows-rows.ensures.each)) in
+    subst (All (IsRow p w)) (sym c.as_slice.ensures) (subst (λ q. All (IsRow q w) c.rows-rows.result.now) (sym c.prime.ensures) (subst (λ n. All (IsRow c.args.m.now.prime n) c.rows-rows.result.now) (sym c.width-width.ensures.width) c.rows-rows.ensures.each)) in
     c.nonzero_count.ensures ∙ ap (λ read. length (leading_rows w read)) c.deref.ensures.value
     ∙ table-rank p w (vectors_of given) c.in_ok-table.table.items c.in_ok-table.ensures.table (row-vectors p w given each) c.in_ok-table.ensures.span
-    ∙ (λ i. length (reduced_basis (number (c.prime.ensures i)) (c.width-width.ensures i) (in_span (number (c.prime.ensures i)) (c.width-width.ensures i) (rows i))))
+    ∙ (λ i. length (reduced_basis (number (c.prime.ensures i)) (c.width-width.ensures.width i) (in_span (number (c.prime.ensures i)) (c.width-width.ensures.width i) (rows i))))

@@ -1,4 +1,4 @@
-use Rattle.std.proofs.Common.{◌≡◌, ◌<◌, ◌≤◌, ◌∙◌, ap, subst, arith}
+use Rattle.std.proofs.Common.{◌≡◌, ◌<◌, ◌≤◌, ◌∙◌, ap, subst}
 use Rattle.fp_field.specs.Field.{number}
 use Rattle.echelons.specs.Echelon.{IsVector, lead, remainder, coordinates}
 use Rattle.elim_fp.specs.Rows.{vectors_of}
@@ -7,9 +7,6 @@ use Rattle.elim_fp.proofs.bases.solve.Goals as goal
 
 pub left_of-requires-clause-vector : goal.left_of-requires-clause-vector
 left_of-requires-clause-vector c = subst (λ n. IsVector (number c.args.v.now.prime) n c.args.v.now.values) c.width-width.ensures.width c.width-width.ensures.vector
-
-pub overflow_cast-result : goal.overflow_cast-result
-overflow_cast-result c = omega (arith, c.if-place-width.true, c.width-width.ensures.width, c.requires.width, c.rows.ensures.narrow)
 
 pub returns-then-place-width-clause-fault : goal.returns-then-place-width-clause-fault
 returns-then-place-width-clause-fault c =

@@ -19,7 +19,7 @@ pub basis_of-requires-clause-echelon : goal.basis_of-requires-clause-echelon
 basis_of-requires-clause-echelon c =
     rw (
       c.prime.ensures,
-      c.width.ensures,
+      c.width.ensures.width,
       unmatched-rows c.as_slice.result.now c.as_slice-2.result.now c.from_rows.result c.args.z.now.rows c.args.b.now.rows
           (c.from_rows.ensures ∙ c.in_ok-rows.ensures) (ap vectors_of c.as_slice.ensures ∙ c.rows.ensures.rows) (ap vectors_of c.as_slice-2.ensures ∙ c.rows-2.ensures.rows),
     )

@@ -8,4 +8,4 @@ pub returns-clause-rows : goal.returns-clause-rows
 returns-clause-rows c =
     let rows : vectors_of c.as_slice-rows.result.now ≡ c.args.m.now.rows = ap vectors_of c.as_slice-rows.ensures ∙ c.rows.ensures.rows in
     c.basis_of.ensures.rows ∙ ap vectors_of c.from_rows.ensures ∙ c.in_ok-basis.ensures.basis
-    ∙ (λ i. reduced_basis (number (c.prime.ensures i)) (c.width.ensures i) (in_null_space (number (c.prime.ensures i)) (rows i)))
+    ∙ (λ i. reduced_basis (number (c.prime.ensures i)) (c.width.ensures.width i) (in_null_space (number (c.prime.ensures i)) (rows i)))

@@ -1,4 +1,4 @@
-use Rattle.std.proofs.Common.{◌≡◌, ◌+◌, ◌<◌, ◌≤◌, false, length, replicate, All, vec_len, sym, ◌∙◌, ap, subst, arith}
+use Rattle.std.proofs.Common.{◌≡◌, ◌+◌, ◌<◌, false, length, replicate, All, vec_len, sym, ◌∙◌, ap, subst, arith}
 use Rattle.std.proofs.lemmas.List.{length-map, length-replicate}
 use Rattle.std.proofs.lemmas.List.Elements.{All-same}
 use Rattle.std.proofs.lemmas.Result.{IfOk-weaker}
@@ -42,16 +42,9 @@ images c m =
 
 wide : (c : After-matrix_of) → c.matrix_of.result.width ≡ length c.deref.result.now + length c.args.chains.now
 wide c =
-    let e : c.len-2.result ≡ vec_len c.in_ok-columns.columns = c.len-2.ensures in
+    let e : c.len.result ≡ vec_len c.in_ok-columns.columns = c.len.ensures in
     let f : length c.deref.result.now ≡ vec_len c.in_ok-columns.columns = c.deref.ensures.len in
-    let g : c.matrix_of.result.width ≡ c.len-2.result + length c.args.chains.now = c.matrix_of.ensures.width in
-    omega arith
-
-pub relations-requires : goal.relations-requires
-relations-requires c =
-    let d = goal.at.relations-requires c in
-    let e : length c.matrix_of.result.rows ≡ length c.args.cells.now = images d.After-matrix_of (many d.After-deref-2) in
-    let l : length c.args.cells.now ≤ 4294967295 = c.if-cells-most.false in
+    let g : c.matrix_of.result.width ≡ c.len.result + length c.args.chains.now = c.matrix_of.ensures.width in
     omega arith
 
 pub returns-clause-width : goal.returns-clause-width
