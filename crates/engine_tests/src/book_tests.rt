@@ -27,7 +27,7 @@ fn some_cell(rt: &impl Abort, alloc: Global) -> Arc<CellValue>
     empty_cell(alloc).expect(rt, "memory")
 }
 
-fn some_key(rt: &impl Abort, alloc: Global, degree: u32) -> Key
+fn some_key(rt: &impl Abort, alloc: Global, degree: u32) -> Arc<Key>
     ensures { result ≡ sphere_key degree }
 {
     key_in(alloc, degree).expect(rt, "memory")
@@ -138,7 +138,7 @@ fn keys_in_order(rt: HostRuntime) {
 }
 
 // A key through the bound: it is taken and given back.
-fn tried<M: Memo>(memo: &mut M, key: &Key) -> Result<bool, AllocError> {
+fn tried<M: Memo>(memo: &mut M, key: &Arc<Key>) -> Result<bool, AllocError> {
     match memo.claim(key)? {
         Claim::Granted(ticket) => {
             memo.release(ticket);
@@ -151,7 +151,7 @@ fn tried<M: Memo>(memo: &mut M, key: &Key) -> Result<bool, AllocError> {
 }
 
 // A key through the bound: it is published, where it can be taken, and then looked up.
-fn shared<M: Memo>(memo: &mut M, key: &Key, cell: Arc<CellValue>) -> Result<bool, AllocError>
+fn shared<M: Memo>(memo: &mut M, key: &Arc<Key>, cell: Arc<CellValue>) -> Result<bool, AllocError>
     requires { cell.key ≡ key.now }
 {
     match memo.claim(key)? {

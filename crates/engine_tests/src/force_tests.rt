@@ -13,7 +13,7 @@ use core_board::interleavings;
 use force_engine::{Steps, new_engine};
 use fp_field::Prime;
 use oracle_iface::{
-    Body, CellValue, Claim, Forcer, Key, Memo, Op, Outcome, Place, RuleSet, Ticket, copy_key,
+    Body, CellValue, Claim, Forcer, Key, Memo, Op, Outcome, Place, RuleSet, Ticket,
 };
 use seqs::{Arc, new_seq};
 use std::alloc::{AllocError, Global};
@@ -33,7 +33,6 @@ enum Manner {
 /// A memo that tells no front, keeps the last cell that was published, and counts what is done.
 #[derive(Drop)]
 struct Shelf {
-    alloc: Global,
     manner: Manner,
     cell: Option<Arc<CellValue>>,
     granted: u64,
@@ -42,9 +41,8 @@ struct Shelf {
 }
 
 impl Shelf {
-    fn new(alloc: Global, manner: Manner) -> Shelf {
+    fn new(manner: Manner) -> Shelf {
         Shelf {
-            alloc,
             manner,
             cell: None,
             granted: 0,
@@ -65,7 +63,7 @@ impl Memo for Shelf {
 
     ghost origin = { λ s. tt };
 
-    fn claim(&mut self, key: &Key) -> Result<Claim, AllocError> {
+    fn claim(&mut self, key: &Arc<Key>) -> Result<Claim, AllocError> {
         if let Some(cell) = self.look(key)? {
             return Ok(Claim::Present(cell));
         }
@@ -73,7 +71,7 @@ impl Memo for Shelf {
             Manner::IsBusy => Ok(Claim::Busy(7)),
             Manner::IsFull => Ok(Claim::Full(65_536)),
             Manner::Grants => {
-                let key = copy_key(self.alloc, key)?;
+                let key = key.clone()?;
                 self.granted = self.granted.saturating_add(1);
                 Ok(Claim::Granted(Ticket { key, seat: 0 }))
             }
@@ -91,7 +89,7 @@ impl Memo for Shelf {
         self.released = self.released.saturating_add(1);
     }
 
-    fn look(&mut self, key: &Key) -> Result<Option<Arc<CellValue>>, AllocError> {
+    fn look(&mut self, key: &Arc<Key>) -> Result<Option<Arc<CellValue>>, AllocError> {
         let Some(cell) = &self.cell else {
             return Ok(None);
         };
@@ -192,7 +190,7 @@ fn found(alloc: Global, shelf: &mut Shelf, has_memory: bool) -> Option<bool> {
 /// What comes of forcing the key over a shelf of a manner, once for each rule that has memory or has none: how often no cells are found, how
 /// often memory is wanting, and what the shelf has granted, published and taken back.
 fn counts(alloc: Global, manner: Manner, memory: &[bool]) -> [u64; 5] {
-    let mut shelf = Shelf::new(alloc, manner);
+    let mut shelf = Shelf::new(manner);
     let mut right: u64 = 0;
     let mut refused: u64 = 0;
     for has_memory in memory {

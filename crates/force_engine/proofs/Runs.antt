@@ -1,5 +1,5 @@
 -- What each call of a forcer keeps, calls one after the other keep.
-use Rattle.std.proofs.Common.{◌≡◌, ℕ, suc, ◌<◌, ◌≤◌, Bool, false, List, [], ◌∷◌, sym, ◌∙◌, subst, refl, arith, Result, Some, None}
+use Rattle.std.proofs.Common.{◌≡◌, ℕ, suc, ◌<◌, ◌≤◌, List, [], ◌∷◌, sym, ◌∙◌, subst, refl, arith, Result, Option, Some, None}
 use Rattle.std.proofs.lemmas.List.Elements.{All-nil, All-cons, All-contains}
 use Rattle.std.specs.Prelude.{All, Contains, map}
 use Rattle.std.specs.declared.alloc.AllocError.{AllocError}
@@ -41,7 +41,7 @@ needs_of_asked P p asks needs shown all i d lt = All-contains (λ q. P (key_of p
     back [] x = All-nil (λ q. P (key_of p q))
     back (q ∷ qs) x = All-cons (λ q. P (key_of p q)) q qs (x 0 (key_of p q) (omega arith)) (back qs (λ j d lt. x (suc j) d (omega (arith, lt))))
 
--- ---- the memo, the count of the steps and the flag that a closure has
+-- ---- the memo, the count of the steps and the want of memory that a closure has
 
 module _ {M O : Type 0} (seat : M → ℕ) (shard : Key → ℕ) (fronts : M → Fronts) (origin : M → O) where
   pub ran_self : (m : M) (n : ℕ) → Ran seat shard fronts origin m m n n
@@ -83,23 +83,23 @@ module _ {M O : Type 0} (seat : M → ℕ) (shard : Key → ℕ) (fronts : M →
         lower = λ k low. f k (let m : ℕ = key_rank k in let n : ℕ = key_rank key in let l : m < n = low in let l' : n < rank = less in let goal : m < rank = omega (arith, l, l') in goal);
       }) (fronts a) free
 
-  module _ {S T R L N K : Type 0} (top : S → T) (rules : S → R) (name : S → L) (memo : S → M) (step_name : S → N) (steps : S → ℕ) (flag_name : S → K) (flag : S → Bool) where
+  module _ {S T R L N K : Type 0} (top : S → T) (rules : S → R) (name : S → L) (memo : S → M) (step_name : S → N) (steps : S → ℕ) (lack_name : S → K) (lack : S → Option AllocError) where
     -- what stays over the calls of a closure
     pub record Stays (s t : S) : Type 0 where
       pub tops : top t ≡ top s
       pub same_rules : rules t ≡ rules s
       pub names : name t ≡ name s
       pub step_names : step_name t ≡ step_name s
-      pub flag_names : flag_name t ≡ flag_name s
-      pub flags : flag t ≡ false → flag s ≡ false
+      pub lack_names : lack_name t ≡ lack_name s
+      pub lacks : lack t ≡ None → lack s ≡ None
       pub ran : Ran seat shard fronts origin (memo s) (memo t) (steps s) (steps t)
 
     -- the key is settled, if no call was without memory
     abbrev pub Answered : S → Key → S → Type 0
-    Answered s k t = flag t ≡ false → Settles k (memo s) (memo t)
+    Answered s k t = lack t ≡ None → Settles k (memo s) (memo t)
 
     stays_self : (s : S) → Stays s s
-    stays_self s = record { tops = refl; same_rules = refl; names = refl; step_names = refl; flag_names = refl; flags = λ x. x; ran = ran_self (memo s) (steps s) }
+    stays_self s = record { tops = refl; same_rules = refl; names = refl; step_names = refl; lack_names = refl; lacks = λ x. x; ran = ran_self (memo s) (steps s) }
 
     stays_both : (s t u : S) → Stays s t → Stays t u → Stays s u
     stays_both s t u a b = record {
@@ -107,8 +107,8 @@ module _ {M O : Type 0} (seat : M → ℕ) (shard : Key → ℕ) (fronts : M →
       same_rules = b.same_rules ∙ a.same_rules;
       names = b.names ∙ a.names;
       step_names = b.step_names ∙ a.step_names;
-      flag_names = b.flag_names ∙ a.flag_names;
-      flags = λ x. a.flags (b.flags x);
+      lack_names = b.lack_names ∙ a.lack_names;
+      lacks = λ x. a.lacks (b.lacks x);
       ran = ran_both (memo s) (memo t) (memo u) (steps s) (steps t) (steps u) a.ran b.ran;
     }
 
@@ -116,7 +116,7 @@ module _ {M O : Type 0} (seat : M → ℕ) (shard : Key → ℕ) (fronts : M →
     answered_left s t u k a p clear = settles_left k (memo s) (memo t) (memo u) (steps s) (steps t) a.ran (p clear)
 
     answered_right : (s t u : S) (k : Key) → Stays s t → Answered s k t → Stays t u → Answered s k u
-    answered_right s t u k a p b clear = settles_right k (memo s) (memo t) (memo u) (steps t) (steps u) a.ran.seats (p (b.flags clear)) b.ran
+    answered_right s t u k a p b clear = settles_right k (memo s) (memo t) (memo u) (steps t) (steps u) a.ran.seats (p (b.lacks clear)) b.ran
 
     module _ (calls : Calls S) (one : (s : S) (k : Key) (r : Result CellValue AllocError) (t : S) → calls s k r t → Stays s t × Answered s k t) where
       pub stays_run : (ks : List Key) (s t : S) → Asked calls s ks t → Stays s t
@@ -135,13 +135,13 @@ module _ {M O : Type 0} (seat : M → ℕ) (shard : Key → ℕ) (fronts : M →
           subst (λ (z : M). Ran seat shard fronts origin (memo s) z (steps s) n) (sym (back (sym a.names)))
           (subst (λ (z : ℕ). Ran seat shard fronts origin (memo s) (memo t) (steps s) z) (sym (step_back (sym a.step_names))) a.ran)
 
-      -- the flag that comes back is not set, and all that is needed was asked for
-      pub needs_came_back : (key : Key) (asks : List Ask) (s t : S) → Asked calls s (map (key_of key.prime) asks) t → (m : M) (f : Bool)
-          → (name s ≡ name t → m ≡ memo t) → (flag_name s ≡ flag_name t → f ≡ flag t) → f ≡ false → All (Contains asks) (needs_of key)
+      -- no want of memory comes back, and all that is needed was asked for
+      pub needs_came_back : (key : Key) (asks : List Ask) (s t : S) → Asked calls s (map (key_of key.prime) asks) t → (m : M) (f : Option AllocError)
+          → (name s ≡ name t → m ≡ memo t) → (lack_name s ≡ lack_name t → f ≡ lack t) → f ≡ None → All (Contains asks) (needs_of key)
           → Between (NeedsSettled (seat (memo s)) shard key) (fronts (memo s)) (fronts m)
-      needs_came_back key asks s t e m f back flag_back clear all =
+      needs_came_back key asks s t e m f back lack_back clear all =
           let a = stays_run _ s t e in
-          let not_set : flag t ≡ false = sym (flag_back (sym a.flag_names)) ∙ clear in
+          let not_set : lack t ≡ None = sym (lack_back (sym a.lack_names)) ∙ clear in
           let answers = answers_run (map (key_of key.prime) asks) s t e in
           subst (λ (z : M). Between (NeedsSettled (seat (memo s)) shard key) (fronts (memo s)) (fronts z)) (sym (back (sym a.names)))
           (between_all (seat (memo s)) (fronts (memo s)) (fronts (memo t)) a.ran.went

@@ -60,6 +60,7 @@ impl<'a, R: RuleSet, M: Memo> Engine<'a, R, M> {
         ensures rules { self.new.rules ≡ self.old.rules }
         ensures loan { self.new.memo.ghost_name ≡ self.old.memo.ghost_name }
     {
+        let key = Arc::new(alloc, key)?;
         force_with(alloc, self.rules, self.memo, steps, key)
     }
 }

@@ -6,6 +6,7 @@ pub mod Cutting
 pub mod Ends
 pub mod Forced
 pub mod Kept
+pub mod MapCrossing
 pub mod Moving
 pub mod NewTables
 pub mod Reading

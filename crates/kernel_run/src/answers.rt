@@ -14,7 +14,7 @@ use oracle_iface::{Memo, RuleSet};
 use port_io::Port;
 use reply_text::{ByteList, Reply};
 use session_core::{LineFault, Session};
-use std::alloc::{AllocError, Global};
+use std::alloc::Global;
 use std::sync::ledger::Ledger;
 
 const TOO_LONG: &[u8] = b"error over script 16777217\n";
@@ -75,7 +75,7 @@ fn line_text<R: RuleSet, M: Memo, L: Ledger>(
     session: &mut Session,
     answerer: &mut ByEngine<R, M, L>,
     line: &[u8],
-) -> Result<ByteList, AllocError>
+) -> Result<ByteList, LineFault>
     requires session { session.old.is_ended ≡ false }
     requires ready { IsReady (R.treats answerer.old.engine.rules.now) (M.seat answerer.old.engine.memo.now) M.shard (M.fronts answerer.old.engine.memo.now) }
     ensures text { IfOk result (λ text. text ≡ text_to session.old.state line.now) }
@@ -85,9 +85,10 @@ fn line_text<R: RuleSet, M: Memo, L: Ledger>(
         answerer.old.engine.memo.now answerer.new.engine.memo.now answerer.old.steps.now answerer.new.steps.now }
     ensures settled { OnOk result (Between (AreSettled (M.seat answerer.old.engine.memo.now) M.shard (keys_at session.old.state line.now)) (M.fronts answerer.old.engine.memo.now) (M.fronts answerer.new.engine.memo.now)) }
 {
-    match line_reply(session, answerer, line) {
-        Ok(reply) => reply_text::reply_text(alloc, &reply),
-        Err(_) => Err(AllocError),
+    let reply = line_reply(session, answerer, line)?;
+    match reply_text::reply_text(alloc, &reply) {
+        Ok(text) => Ok(text),
+        Err(_) => Err(LineFault::Memory),
     }
 }
 

@@ -28,7 +28,7 @@ impl<'a, W: Wait> Memo for SharedBook<'a, W> {
 
     ghost origin = { λ _. tt };
 
-    fn claim(&mut self, key: &Key) -> Result<Claim, AllocError> {
+    fn claim(&mut self, key: &Arc<Key>) -> Result<Claim, AllocError> {
         claim_at(&mut self.book.lock(self.rt), key, self.seat)
     }
 
@@ -40,13 +40,13 @@ impl<'a, W: Wait> Memo for SharedBook<'a, W> {
         self.book.lock(self.rt).release(ticket);
     }
 
-    fn look(&mut self, key: &Key) -> Result<Option<Arc<CellValue>>, AllocError> {
+    fn look(&mut self, key: &Arc<Key>) -> Result<Option<Arc<CellValue>>, AllocError> {
         look_at(&self.book.lock(self.rt), key)
     }
 }
 
 // Claims a key for a seat, which sees no front.
-fn claim_at(book: &mut Book, key: &Key, seat: u32) -> Result<Claim, AllocError>
+fn claim_at(book: &mut Book, key: &Arc<Key>, seat: u32) -> Result<Claim, AllocError>
     ensures { IsClaimed seat 0 key.now None None result }
 {
     book.kept();
@@ -54,7 +54,7 @@ fn claim_at(book: &mut Book, key: &Key, seat: u32) -> Result<Claim, AllocError>
 }
 
 // Looks a key up for a seat, which sees no front.
-fn look_at(book: &Book, key: &Key) -> Result<Option<Arc<CellValue>>, AllocError>
+fn look_at(book: &Book, key: &Arc<Key>) -> Result<Option<Arc<CellValue>>, AllocError>
     ensures { IsLooked 0 0 key.now None None result }
 {
     book.kept();

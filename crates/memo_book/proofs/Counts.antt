@@ -1,7 +1,7 @@
 -- How many keys are held.
 use Rattle.std.proofs.Common.{◌≡◌, ℕ, zero, suc, ◌+◌, cond, arith, List, [], ◌∷◌, ◌++◌, set, refl, ap, Some, slice_get}
 use Rattle.std.proofs.lemmas.List.Sums.{sum_by-cons}
-use Rattle.memo_book.specs.Places.{is_held, held_count}
+use Rattle.memo_book.specs.Kept.{is_held, held_count}
 use Rattle.memo_book.specs.declared.book.State.{State}
 use Rattle.memo_book.proofs.Lists.{some_same}
 

@@ -2,7 +2,8 @@ pub mod Lists
 pub mod Journals
 pub mod Replays
 pub mod Counts
-pub mod Places
+pub mod Finding
+pub mod Columns
 pub mod Bridge
 pub mod Known
 pub mod Told

@@ -1,4 +1,4 @@
 pub mod Books
-pub mod Places
+pub mod Kept
 pub mod Histories
 pub mod Worked

@@ -6,10 +6,10 @@ ghost use Rattle.memo_book.specs.declared.book.State.TheVariants.{Unclaimed, Pub
 
 use crate::book::{Book, State};
 use core_board::Event;
-use oracle_iface::{CellValue, Claim, Key, Ticket, copy_key};
+use indexmap::IndexMap;
+use oracle_iface::{CellValue, Claim, Key, Ticket};
 use seqs::Arc;
 use std::alloc::{AllocError, Global};
-use std::collections::BTreeMap;
 
 /// The most keys that a book has.
 const MOST: usize = 65536;
@@ -21,12 +21,9 @@ pub fn new_book(alloc: Global) -> Book
     ensures journal { result.journal ≡ [] }
 {
     Book {
-        alloc,
-        keys: Vec::new(alloc),
-        states: Vec::new(alloc),
+        table: IndexMap::new(alloc),
         journal: Vec::new(alloc),
         held: 0,
-        places: BTreeMap::new(alloc),
     }
 }
 
@@ -35,17 +32,17 @@ impl Book {
     /// one included, with that seat; Full exactly where the book has 65,536 keys and this is none of them; and else Granted, and then the
     /// seat holds the key. Room for this event and a later one of the key is taken first. The only error is want of memory, and then the
     /// book is as it was.
-    pub fn claim(&mut self, key: &Key, seat: u32) -> Result<Claim, AllocError>
+    pub fn claim(&mut self, key: &Arc<Key>, seat: u32) -> Result<Claim, AllocError>
         ensures { Claims self.old self.new key.now seat result }
     {
         let Some(i) = self.place(key) else {
             return self.claim_new(key, seat);
         };
-        match &self.states[i] {
+        match &self.table[i] {
             State::Published(value) => Ok(Claim::Present(value.clone()?)),
             State::Held(holder) => Ok(Claim::Busy(*holder)),
             State::Unclaimed => {
-                let key = copy_key(self.alloc, key)?;
+                let key = key.clone()?;
                 self.hold(i, seat)?;
                 Ok(Claim::Granted(Ticket { key, seat }))
             }
@@ -74,13 +71,13 @@ impl Book {
     }
 
     /// The cell of a key, or None exactly where the key is not published. The only error is want of memory.
-    pub fn look(&self, key: &Key) -> Result<Option<Arc<CellValue>>, AllocError>
+    pub fn look(&self, key: &Arc<Key>) -> Result<Option<Arc<CellValue>>, AllocError>
         ensures { Looks self.now key.now result }
     {
         let Some(i) = self.place(key) else {
             return Ok(None);
         };
-        match &self.states[i] {
+        match &self.table[i] {
             State::Published(value) => Ok(Some(value.clone()?)),
             State::Held(_) => Ok(None),
             State::Unclaimed => Ok(None),
@@ -95,10 +92,10 @@ impl Book {
     }
 
     /// The keys, in order of first claim.
-    pub fn keys(&self) -> &[Key]
+    pub fn keys(&self) -> &[Arc<Key>]
         ensures { result.now ≡ self.now.keys }
     {
-        &self.keys
+        self.table.keys().as_slice()
     }
 
     /// What every book keeps: its states are the replay of its journal, which is legal and names its keys in their
@@ -106,18 +103,18 @@ impl Book {
     pub fn kept(&self)
         ensures { IsBook self.now.keys self.now.states self.now.journal }
     {
-        let _ = &self.keys;
+        let _ = &self.table;
     }
 
     // Claims a key that the book has not.
-    fn claim_new(&mut self, key: &Key, seat: u32) -> Result<Claim, AllocError>
+    fn claim_new(&mut self, key: &Arc<Key>, seat: u32) -> Result<Claim, AllocError>
         requires { IsNew self.old key.now }
         ensures { Claims self.old self.new key.now seat result }
     {
-        if self.keys.len() == MOST {
+        if self.table.len() == MOST {
             return Ok(Claim::Full(MOST as u32));
         }
-        let held = copy_key(self.alloc, key)?;
+        let held = key.clone()?;
         self.add(key, seat)?;
         Ok(Claim::Granted(Ticket { key: held, seat }))
     }

@@ -19,7 +19,7 @@ impl Memo for Book {
 
     ghost origin = { λ _. tt };
 
-    fn claim(&mut self, key: &Key) -> Result<Claim, AllocError> {
+    fn claim(&mut self, key: &Arc<Key>) -> Result<Claim, AllocError> {
         self.kept();
         let answer = self.claim(key, 0);
         self.kept();
@@ -38,7 +38,7 @@ impl Memo for Book {
         self.kept();
     }
 
-    fn look(&mut self, key: &Key) -> Result<Option<Arc<CellValue>>, AllocError> {
+    fn look(&mut self, key: &Arc<Key>) -> Result<Option<Arc<CellValue>>, AllocError> {
         self.kept();
         let book: &Book = self;
         book.look(key)

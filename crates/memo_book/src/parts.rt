@@ -6,47 +6,42 @@ ghost use Rattle.memo_book.specs.declared.book.State.TheVariants.{Unclaimed, Hel
 
 use crate::book::{Book, State};
 use core_board::Event;
-use oracle_iface::{CellValue, Key, copy_key};
+use oracle_iface::{CellValue, Key};
 use seqs::Arc;
 use std::alloc::AllocError;
 
 impl Book {
     // The place of a key.
-    pub(crate) fn place(&self, key: &Key) -> Option<usize>
+    pub(crate) fn place(&self, key: &Arc<Key>) -> Option<usize>
         ensures some { IfSome result (λ i. slice_get self.now.keys i ≡ Some key.now) }
         ensures none { IfNone result (IsNew self.now key.now) }
     {
-        self.places.get(key).copied()
+        self.table.get_index_of(key)
     }
 
     // The place of a key that the seat holds.
-    pub(crate) fn held_at(&self, key: &Key, seat: u32) -> Option<usize>
+    pub(crate) fn held_at(&self, key: &Arc<Key>, seat: u32) -> Option<usize>
         ensures some { IfSome result (λ i. Stands self.now key.now i (Held seat)) }
         ensures none { IfNone result ((i : ℕ) → Stands self.now key.now i (Held seat) → ⊥) }
     {
         let i = self.place(key)?;
-        match &self.states[i] {
+        match &self.table[i] {
             State::Held(holder) if *holder == seat => Some(i),
             _ => None,
         }
     }
 
     // The seat takes a key that the book has not.
-    pub(crate) fn add(&mut self, key: &Key, seat: u32) -> Result<(), AllocError>
+    pub(crate) fn add(&mut self, key: &Arc<Key>, seat: u32) -> Result<(), AllocError>
         requires new { IsNew self.old key.now }
         requires room { length self.old.keys < 65536 }
         ensures ok { OnOk result (self.new ≡ extended self.old key.now seat) }
         ensures err { OnErr result (self.new ≡ self.old) }
     {
-        let i = self.keys.len();
-        let listed = copy_key(self.alloc, key)?;
-        let found = copy_key(self.alloc, key)?;
+        let i = self.table.len();
+        let listed = key.clone()?;
         self.journal.reserve(self.held + 2)?;
-        self.keys.reserve(1)?;
-        self.states.reserve(1)?;
-        self.places.insert(found, i)?;
-        self.keys.push_reserved(listed);
-        self.states.push_reserved(State::Held(seat));
+        self.table.insert(listed, State::Held(seat))?;
         self.held += 1;
         self.journal.push_reserved(Event::Claim {
             seat,
@@ -62,7 +57,7 @@ impl Book {
         ensures err { OnErr result (self.new ≡ self.old) }
     {
         self.journal.reserve(self.held + 2)?;
-        self.states[i] = State::Held(seat);
+        self.table[i] = State::Held(seat);
         self.held += 1;
         self.journal.push_reserved(Event::Claim {
             seat,
@@ -77,7 +72,7 @@ impl Book {
         requires value { slice_get self.old.keys i ≡ Some value.key }
         ensures { self.new ≡ changed self.old i (Published value) (Publish seat i) }
     {
-        self.states[i] = State::Published(value);
+        self.table[i] = State::Published(value);
         self.held -= 1;
         self.journal.push_reserved(Event::Publish {
             seat,
@@ -90,7 +85,7 @@ impl Book {
         requires held { slice_get self.old.states i ≡ Some (Held seat) }
         ensures { self.new ≡ changed self.old i Unclaimed (Release seat i) }
     {
-        self.states[i] = State::Unclaimed;
+        self.table[i] = State::Unclaimed;
         self.held -= 1;
         self.journal.push_reserved(Event::Release {
             seat,

@@ -8,7 +8,7 @@ ghost use Rattle.memo_shared.specs.Shared.{fronts_of, seat_of, IsOf, IsSame};
 
 use crate::memo::{MemoPass, SharedMemo};
 use crate::parts::{claim_part, look_part, publish_part, release_part};
-use crate::places::shard_of;
+use crate::places::place_of;
 use oracle_iface::{CellValue, Claim, Key, Ticket};
 use seqs::Arc;
 use std::alloc::AllocError;
@@ -20,13 +20,18 @@ impl SharedMemo {
     /// this one included, with that seat; Full exactly where the shard has 65,536 keys and this is none of them; and else Granted, and then the
     /// seat holds the key. The pass has then seen that history, with its own claim where it was granted. The only error is want of memory, and
     /// then the call has added nothing.
-    pub fn claim(&self, rt: &impl Wait, pass: &mut MemoPass, key: &Key) -> Result<Claim, AllocError>
+    pub fn claim(
+        &self,
+        rt: &impl Wait,
+        pass: &mut MemoPass,
+        key: &Arc<Key>,
+    ) -> Result<Claim, AllocError>
         requires pass { IsOf self.now pass.old }
         ensures pass { IsOf self.now pass.new × IsSame pass.old pass.new }
         ensures answer { IsClaimed (seat_of pass.old) (shard_number key.now) key.now (Some (fronts_of pass.old)) (Some (fronts_of pass.new)) result }
     {
         let seat = pass.seat;
-        let place = shard_of(key);
+        let place = place_of(key);
         claim_part(rt, &self.shards[place], &mut pass.parts[place], key, seat)
     }
 
@@ -46,7 +51,7 @@ impl SharedMemo {
         ensures front { Steps (seat_of pass.old) (shard_number ticket.key) (Some (fronts_of pass.old)) (Some (fronts_of pass.new))
             (λ h. IsHeld h ticket.key (seat_of pass.old)) (entry Publishes (seat_of pass.old) ticket.key) }
     {
-        let place = shard_of(&ticket.key);
+        let place = place_of(&ticket.key);
         publish_part(
             rt,
             &self.shards[place],
@@ -64,7 +69,7 @@ impl SharedMemo {
         ensures front { Steps (seat_of pass.old) (shard_number ticket.key) (Some (fronts_of pass.old)) (Some (fronts_of pass.new))
             (λ h. IsHeld h ticket.key (seat_of pass.old)) (entry Releases (seat_of pass.old) ticket.key) }
     {
-        let place = shard_of(&ticket.key);
+        let place = place_of(&ticket.key);
         release_part(rt, &self.shards[place], &mut pass.parts[place], ticket);
     }
 
@@ -74,14 +79,14 @@ impl SharedMemo {
         &self,
         rt: &impl Wait,
         pass: &mut MemoPass,
-        key: &Key,
+        key: &Arc<Key>,
     ) -> Result<Option<Arc<CellValue>>, AllocError>
         requires pass { IsOf self.now pass.old }
         ensures pass { IsOf self.now pass.new × IsSame pass.old pass.new }
         ensures answer { IsLooked (seat_of pass.old) (shard_number key.now) key.now (Some (fronts_of pass.old)) (Some (fronts_of pass.new)) result }
     {
         let seat = pass.seat;
-        let place = shard_of(key);
+        let place = place_of(key);
         look_part(rt, &self.shards[place], &mut pass.parts[place], key, seat)
     }
 }

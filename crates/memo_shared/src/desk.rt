@@ -37,7 +37,7 @@ impl<'a, W: Wait> Memo for Desk<'a, W> {
 
     ghost origin = { λ d. record { memo = d.memo.now; loan = d.pass.ghost_name; made = d.pass.now.made } };
 
-    fn claim(&mut self, key: &Key) -> Result<Claim, AllocError> {
+    fn claim(&mut self, key: &Arc<Key>) -> Result<Claim, AllocError> {
         self.memo.claim(self.rt, self.pass, key)
     }
 
@@ -49,7 +49,7 @@ impl<'a, W: Wait> Memo for Desk<'a, W> {
         self.memo.release(self.rt, self.pass, ticket);
     }
 
-    fn look(&mut self, key: &Key) -> Result<Option<Arc<CellValue>>, AllocError> {
+    fn look(&mut self, key: &Arc<Key>) -> Result<Option<Arc<CellValue>>, AllocError> {
         self.memo.look(self.rt, self.pass, key)
     }
 }

@@ -18,7 +18,7 @@ pub(crate) fn claim_part(
     rt: &impl Wait,
     shard: &Turnstile<Shard>,
     part: &mut Pass<Shard>,
-    key: &Key,
+    key: &Arc<Key>,
     seat: u32,
 ) -> Result<Claim, AllocError>
     requires shard { IsPassOf shard.now part.old }
@@ -81,7 +81,7 @@ pub(crate) fn look_part(
     rt: &impl Wait,
     shard: &Turnstile<Shard>,
     part: &mut Pass<Shard>,
-    key: &Key,
+    key: &Arc<Key>,
     seat: u32,
 ) -> Result<Option<Arc<CellValue>>, AllocError>
     requires shard { IsPassOf shard.now part.old }

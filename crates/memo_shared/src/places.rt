@@ -5,6 +5,7 @@ ghost use Rattle.memo_shared.specs.Shards.{op_number, place_degree, shard_number
 use cells::{dim, small_degree};
 use fp_field::value;
 use oracle_iface::{Key, Op, Place};
+use seqs::Arc;
 
 /// The number of shards.
 pub(crate) const SHARDS: usize = 16;
@@ -42,4 +43,12 @@ pub fn shard_of(key: &Key) -> usize
 {
     let sum = op_place(key.op) + degree_at(&key.place) as u64 + value(key.prime) as u64;
     (sum % 16) as usize
+}
+
+// The number of the shard of a key that is shared.
+pub(crate) fn place_of(key: &Arc<Key>) -> usize
+    ensures number { result ≡ shard_number key.now }
+    ensures below { result < 16 }
+{
+    shard_of(key.get())
 }

@@ -5,38 +5,39 @@ ghost use Rattle.memo_shared.specs.Shared.{IsOf, IsSame};
 use crate::keys::key_in;
 use crate::tables::{Answer, claimed, opened};
 use memo_shared::{MemoPass, SharedMemo};
-use oracle_iface::{Key, Place};
-use std::alloc::Global;
+use std::alloc::{AllocError, Global};
 use std::sync::Wait;
 
-// What a pass is told of the key of another degree.
+// What a pass is told of the key of a degree.
 fn claimed_in(
     rt: &impl Wait,
+    alloc: Global,
     memo: &SharedMemo,
     pass: &mut MemoPass,
-    key: &mut Key,
     degree: u32,
 ) -> Answer
     requires { IsOf memo.now pass.old }
     ensures { IsOf memo.now pass.new × IsSame pass.old pass.new }
 {
-    key.place = Place::Degree(degree);
-    claimed(rt, memo, pass, key)
+    match key_in(alloc, degree) {
+        Ok(key) => claimed(rt, memo, pass, &key),
+        Err(AllocError) => Answer::NoMemory,
+    }
 }
 
 // Whether a pass gets the keys of so many degrees, which are all of one shard.
 fn fills(
     rt: &impl Wait,
+    alloc: Global,
     memo: &SharedMemo,
     pass: &mut MemoPass,
-    key: &mut Key,
     degrees: u16,
 ) -> bool
     requires { IsOf memo.now pass.old }
     ensures { IsOf memo.now pass.new × IsSame pass.old pass.new }
 {
     for i in 0..degrees {
-        if claimed_in(rt, memo, pass, key, 16 * i as u32) != Answer::Granted {
+        if claimed_in(rt, alloc, memo, pass, 16 * i as u32) != Answer::Granted {
             return false;
         }
     }
@@ -46,15 +47,14 @@ fn fills(
 // Behind 65,535 keys of a shard: the last that it may have, one more, one that it has, and one of another shard.
 fn rows(rt: &impl Wait, alloc: Global) -> Option<(bool, [Answer; 4])> {
     let (memo, mut pass, _) = opened(alloc)?;
-    let mut key = key_in(alloc, 0).ok()?;
-    let is_filled = fills(rt, &memo, &mut pass, &mut key, u16::MAX);
+    let is_filled = fills(rt, alloc, &memo, &mut pass, u16::MAX);
     Some((
         is_filled,
         [
-            claimed_in(rt, &memo, &mut pass, &mut key, 16 * 65_535),
-            claimed_in(rt, &memo, &mut pass, &mut key, 16 * 65_536),
-            claimed_in(rt, &memo, &mut pass, &mut key, 16),
-            claimed_in(rt, &memo, &mut pass, &mut key, 1),
+            claimed_in(rt, alloc, &memo, &mut pass, 16 * 65_535),
+            claimed_in(rt, alloc, &memo, &mut pass, 16 * 65_536),
+            claimed_in(rt, alloc, &memo, &mut pass, 16),
+            claimed_in(rt, alloc, &memo, &mut pass, 1),
         ],
     ))
 }

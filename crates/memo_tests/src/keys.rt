@@ -9,15 +9,16 @@ use std::alloc::{AllocError, Global};
 use term_lang::Term;
 
 /// The key of the small cells of a degree of the sphere of dimension 2, over F_3.
-pub fn key_in(alloc: Global, degree: u32) -> Result<Key, AllocError>
+pub fn key_in(alloc: Global, degree: u32) -> Result<Arc<Key>, AllocError>
     ensures { IfOk result (λ k. k ≡ sphere_key degree) }
 {
-    Ok(Key {
+    let key = Key {
         op: Op::Basis,
         prime: Prime::Three,
         place: Place::Degree(degree),
         term: Arc::new(alloc, Term::Sphere(2))?,
-    })
+    };
+    Arc::new(alloc, key)
 }
 
 /// The cell of the key of degree 5, where there is no small cell.

@@ -18,7 +18,7 @@ fn published(
     memo: &SharedMemo,
     one: &mut MemoPass,
     two: &mut MemoPass,
-    key: &Key,
+    key: &Arc<Key>,
     cell: Arc<CellValue>,
 ) -> [Told; 3]
     requires passes { IsOf memo.now one.old × IsOf memo.now two.old }
@@ -53,7 +53,7 @@ fn closed(alloc: Global, memo: SharedMemo, one: MemoPass, two: MemoPass) -> Opti
 // Of the book of a key's shard, how many keys it has, and whether it has the cell of this key.
 fn found(alloc: Global, books: &Books, degree: u32) -> Option<(usize, bool)> {
     let key = key_in(alloc, degree).ok()?;
-    let book = books.get(shard_of(&key))?;
+    let book = books.get(shard_of(key.get()))?;
     let cell = book.look(&key).ok()?;
     Some((book.keys().len(), cell.is_some()))
 }

@@ -4,6 +4,7 @@ ghost use Rattle.memo_shared.specs.Shared.{fronts_of, made_of, seat_of, IsOf, Is
 
 use memo_shared::{MemoPass, SharedMemo, shared_memo};
 use oracle_iface::{Claim, Key};
+use seqs::Arc;
 use std::alloc::{AllocError, Global};
 use std::sync::Wait;
 
@@ -29,7 +30,7 @@ pub enum Answer {
 }
 
 /// What a pass is told when it claims a key. One that it gets it gives back.
-pub fn claimed(rt: &impl Wait, memo: &SharedMemo, pass: &mut MemoPass, key: &Key) -> Answer
+pub fn claimed(rt: &impl Wait, memo: &SharedMemo, pass: &mut MemoPass, key: &Arc<Key>) -> Answer
     requires { IsOf memo.now pass.old }
     ensures { IsOf memo.now pass.new × IsSame pass.old pass.new }
 {
@@ -46,7 +47,7 @@ pub fn claimed(rt: &impl Wait, memo: &SharedMemo, pass: &mut MemoPass, key: &Key
 }
 
 /// Whether a pass finds the cell of a key.
-pub fn finds(rt: &impl Wait, memo: &SharedMemo, pass: &mut MemoPass, key: &Key) -> bool
+pub fn finds(rt: &impl Wait, memo: &SharedMemo, pass: &mut MemoPass, key: &Arc<Key>) -> bool
     requires { IsOf memo.now pass.old }
     ensures { IsOf memo.now pass.new × IsSame pass.old pass.new }
 {
@@ -60,7 +61,7 @@ pub fn finds(rt: &impl Wait, memo: &SharedMemo, pass: &mut MemoPass, key: &Key) 
 pub type Told = (Answer, bool);
 
 /// What a pass is told of a key.
-pub fn told(rt: &impl Wait, memo: &SharedMemo, pass: &mut MemoPass, key: &Key) -> Told
+pub fn told(rt: &impl Wait, memo: &SharedMemo, pass: &mut MemoPass, key: &Arc<Key>) -> Told
     requires { IsOf memo.now pass.old }
     ensures { IsOf memo.now pass.new × IsSame pass.old pass.new }
 {

@@ -8,7 +8,7 @@ use term_lang::{Cell, SmallCell, Term, copy_cell, copy_small};
 
 /// What is asked of a space: its small cells of a degree, the small differential, the maps F, G and H
 /// of its reduction, and the cycles that stand for its homology in a degree.
-#[derive(Clone, Copy, Debug, PartialEq, Eq, PartialOrd, Ord)]
+#[derive(Clone, Copy, Debug, PartialEq, Eq, PartialOrd, Ord, Hash)]
 pub enum Op {
     /// The small cells of a degree.
     Basis,
@@ -25,7 +25,7 @@ pub enum Op {
 }
 
 /// Where it is asked.
-#[derive(Debug, PartialEq, Eq, PartialOrd, Ord, Drop)]
+#[derive(Debug, PartialEq, Eq, PartialOrd, Ord, Hash, Drop)]
 pub enum Place {
     /// A degree, for `Basis` and `Cycles`.
     Degree(u32),
@@ -38,7 +38,7 @@ pub enum Place {
 /// A question: an operation at a place of a space, over F_p. Keys are equal where their contents are.
 /// They are ordered by operation, prime, place and then term, so that terms, which are shared and
 /// large, are compared last.
-#[derive(Debug, PartialEq, Eq, PartialOrd, Ord, Drop)]
+#[derive(Debug, PartialEq, Eq, PartialOrd, Ord, Hash, Drop)]
 pub struct Key {
     pub op: Op,
     pub prime: Prime,

@@ -11,10 +11,11 @@ use crate::keys::Key;
 use seqs::Arc;
 use std::alloc::AllocError;
 
-/// The right to publish a key and the duty to do so or to give the key back: it cannot be dropped.
+/// The right to publish a key, which the table shares, and the duty to do so or to give the key back: it cannot
+/// be dropped.
 #[derive(Debug)]
 pub struct Ticket {
-    pub key: Key,
+    pub key: Arc<Key>,
     pub seat: u32,
 }
 
@@ -51,8 +52,8 @@ pub trait Memo {
     /// What it was made with.
     ghost origin: { Self → Self.Origin };
 
-    /// Claims a key.
-    fn claim(&mut self, key: &Key) -> Result<Claim, AllocError>
+    /// Claims a key, which the memo then shares.
+    fn claim(&mut self, key: &Arc<Key>) -> Result<Claim, AllocError>
         ensures seat { seat self.new ≡ seat self.old }
         ensures origin { origin self.new ≡ origin self.old }
         ensures answer { IsClaimed (seat self.old) (shard key.now) key.now (fronts self.old) (fronts self.new) result };
@@ -75,7 +76,7 @@ pub trait Memo {
             (λ h. IsHeld h ticket.key (seat self.old)) (entry Releases (seat self.old) ticket.key) };
 
     /// What a key comes to, or None exactly where it is not published.
-    fn look(&mut self, key: &Key) -> Result<Option<Arc<CellValue>>, AllocError>
+    fn look(&mut self, key: &Arc<Key>) -> Result<Option<Arc<CellValue>>, AllocError>
         ensures seat { seat self.new ≡ seat self.old }
         ensures origin { origin self.new ≡ origin self.old }
         ensures answer { IsLooked (seat self.old) (shard key.now) key.now (fronts self.old) (fronts self.new) result };

@@ -2,7 +2,7 @@
 ghost use Rattle.std.specs.Prelude.{None};
 
 use crate::texts::push_cell;
-use oracle_iface::{CellValue, Claim, Key, Memo, Ticket, copy_key};
+use oracle_iface::{CellValue, Claim, Key, Memo, Ticket};
 use seqs::Arc;
 use std::alloc::{AllocError, Global};
 use std::cmp::Ordering;
@@ -11,7 +11,6 @@ use std::cmp::Ordering;
 /// Where memory was wanting it writes no more.
 #[derive(Drop)]
 pub(crate) struct Published {
-    alloc: Global,
     cells: Vec<Arc<CellValue>>,
     pub text: String,
     pub written: Result<(), AllocError>,
@@ -20,7 +19,6 @@ pub(crate) struct Published {
 impl Published {
     pub(crate) fn new(alloc: Global) -> Published {
         Published {
-            alloc,
             cells: Vec::new(alloc),
             text: String::new(alloc),
             written: Ok(()),
@@ -45,11 +43,11 @@ impl Memo for Published {
 
     ghost origin = { λ s. tt };
 
-    fn claim(&mut self, key: &Key) -> Result<Claim, AllocError> {
+    fn claim(&mut self, key: &Arc<Key>) -> Result<Claim, AllocError> {
         if let Some(cell) = self.look(key)? {
             return Ok(Claim::Present(cell));
         }
-        let key = copy_key(self.alloc, key)?;
+        let key = key.clone()?;
         Ok(Claim::Granted(Ticket { key, seat: 0 }))
     }
 
@@ -64,7 +62,7 @@ impl Memo for Published {
         let Ticket { key: _, seat: _ } = ticket;
     }
 
-    fn look(&mut self, key: &Key) -> Result<Option<Arc<CellValue>>, AllocError> {
+    fn look(&mut self, key: &Arc<Key>) -> Result<Option<Arc<CellValue>>, AllocError> {
         for cell in &self.cells {
             match cell.get().key.cmp(key) {
                 Ordering::Equal => return Ok(Some(cell.clone()?)),

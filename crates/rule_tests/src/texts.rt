@@ -43,7 +43,7 @@ fn push_outcome(out: &mut String, outcome: &Outcome) -> Result<(), AllocError> {
 
 /// Writes the key of a cell, and what it comes to.
 pub(crate) fn push_cell(out: &mut String, cell: &CellValue) -> Result<(), AllocError> {
-    let key = &cell.key;
+    let key = cell.key.get();
     let name = name_of(key.term.get());
     write!(
         out,

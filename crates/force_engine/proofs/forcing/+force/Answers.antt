@@ -8,14 +8,14 @@ use Rattle.force_engine.specs.Ways.{HasValue, NeedsSettled}
 use Rattle.force_engine.proofs.Boards.{published_unclaimed, published_held}
 use Rattle.force_engine.proofs.Calls.{ok_any, ok_if, quiet_ran, found_settled, no_other, free_to_run, free_with_ticket, busy_done, full_done, still_own, granted_done}
 use Rattle.force_engine.proofs.Keys.{lower_key, covered}
-use Rattle.force_engine.proofs.Runs.{stays_run, came_back, needs_came_back, ran_free}
+use Rattle.force_engine.proofs.Runs.{ran_self, stays_run, came_back, needs_came_back, ran_free}
 use Rattle.force_engine.proofs.forcing.+force.Goals as goal
 
-pub compute-rule-requires-clause-forcer : goal.compute-rule-requires-clause-forcer
-compute-rule-requires-clause-forcer g t c = λ qs s q all asked need.
-    let r = stays_run g.M.Memo.seat g.M.Memo.shard g.M.Memo.fronts g.M.Memo.origin (λ z. z.call.0) (λ z. z.call.2) (λ z. z.call.3.ghost_name) (λ z. z.call.3.now)
-    (λ z. z.call.4.ghost_name) (λ z. z.call.4.now) (λ z. z.call.5.ghost_name) (λ z. z.call.5.now) _
-    (λ z k r w e. let m = e.met.1 in (record { tops = m.0.0; same_rules = m.0.2; names = m.0.3; step_names = m.0.4; flag_names = m.0.5; flags = λ x. (m.1.1.1 x).0; ran = m.1.1.0 }, λ clear. (m.1.1.1 clear).1)) _ _ s asked in
+pub compute-apply-requires-clause-forcer : goal.compute-apply-requires-clause-forcer
+compute-apply-requires-clause-forcer g t c = λ qs s q all asked need.
+    let r = stays_run g.M.Memo.seat g.M.Memo.shard g.M.Memo.fronts g.M.Memo.origin (λ z. z.call.0) (λ z. z.call.3) (λ z. z.call.4.ghost_name) (λ z. z.call.4.now)
+    (λ z. z.call.5.ghost_name) (λ z. z.call.5.now) (λ z. z.call.2.ghost_name) (λ z. z.call.2.now) _
+    (λ z k r w e. let m = e.met.1 in (record { tops = m.0.0; same_rules = m.0.3; names = m.0.4; step_names = m.0.5; lack_names = m.0.2; lacks = λ x. (m.1.1.1 x).0; ran = m.1.1.0 }, λ clear. (m.1.1.1 clear).1)) _ _ s asked in
     let lower = g.R.RuleSet.lower c.args.rules.now c.args.key q c.requires.treats need in
     let less : key_rank (key_of c.args.key.prime q) < key_rank c.args.key =
     lower_key c.args.key.prime q c.args.key (g.R.RuleSet.valid c.args.rules.now _ lower.0) lower.1 (g.R.RuleSet.back c.args.rules.now c.args.key q c.requires.treats need) in
@@ -35,7 +35,7 @@ compute-rule-requires-clause-forcer g t c = λ qs s q all asked need.
                   subst (λ (n : ℕ). key_rank (key_of c.args.key.prime q) < n) (sym same) less,
                   (
                     subst (λ z. g.R.RuleSet.treats z (key_of c.args.key.prime q)) (ap (λ z. z.now) (sym r.same_rules)) lower.0,
-                    subst (λ (n : ℕ). IfTold (IsFreeBelow (g.M.Memo.seat s.call.3.now) g.M.Memo.shard n) (g.M.Memo.fronts s.call.3.now)) (sym same) free,
+                    subst (λ (n : ℕ). IfTold (IsFreeBelow (g.M.Memo.seat s.call.4.now) g.M.Memo.shard n) (g.M.Memo.fronts s.call.4.now)) (sym same) free,
                   ),
                 ),
               ),
@@ -49,31 +49,31 @@ compute-rule-requires-clause-forcer g t c = λ qs s q all asked need.
 pub compute-returns-in_err-outcome-clause-ran : goal.compute-returns-in_err-outcome-clause-ran
 compute-returns-in_err-outcome-clause-ran g t c =
     subst (λ (n : ℕ). Ran g.M.Memo.seat g.M.Memo.shard g.M.Memo.fronts g.M.Memo.origin c.args.memo.now c.memo-1.given.0 n c.steps-1.given.0) c.tick.ensures
-    (came_back g.M.Memo.seat g.M.Memo.shard g.M.Memo.fronts g.M.Memo.origin (λ z. z.call.0) (λ z. z.call.2) (λ z. z.call.3.ghost_name) (λ z. z.call.3.now)
-    (λ z. z.call.4.ghost_name) (λ z. z.call.4.now) (λ z. z.call.5.ghost_name) (λ z. z.call.5.now) _
-    (λ z k r w e. let m = e.met.1 in (record { tops = m.0.0; same_rules = m.0.2; names = m.0.3; step_names = m.0.4; flag_names = m.0.5; flags = λ x. (m.1.1.1 x).0; ran = m.1.1.0 }, λ clear. (m.1.1.1 clear).1)) _ _ c.rule.new.forcer c.rule.ensures.asked.asked c.memo-1.given.0 c.steps-1.given.0 c.memo-1.given.1 c.steps-1.given.1)
+    (came_back g.M.Memo.seat g.M.Memo.shard g.M.Memo.fronts g.M.Memo.origin (λ z. z.call.0) (λ z. z.call.3) (λ z. z.call.4.ghost_name) (λ z. z.call.4.now)
+    (λ z. z.call.5.ghost_name) (λ z. z.call.5.now) (λ z. z.call.2.ghost_name) (λ z. z.call.2.now) _
+    (λ z k r w e. let m = e.met.1 in (record { tops = m.0.0; same_rules = m.0.3; names = m.0.4; step_names = m.0.5; lack_names = m.0.2; lacks = λ x. (m.1.1.1 x).0; ran = m.1.1.0 }, λ clear. (m.1.1.1 clear).1)) _ _ c.apply.new.forcer c.apply.ensures.asked.asked c.memo-1.given.0 c.steps-1.given.0 c.memo-1.given.1 c.steps-1.given.1)
 
-pub compute-returns-then-lacked-clause-ran : goal.compute-returns-then-lacked-clause-ran
-compute-returns-then-lacked-clause-ran g t c =
+pub compute-returns-in-Some-clause-ran : goal.compute-returns-in-Some-clause-ran
+compute-returns-in-Some-clause-ran g t c =
     subst (λ (n : ℕ). Ran g.M.Memo.seat g.M.Memo.shard g.M.Memo.fronts g.M.Memo.origin c.args.memo.now c.memo-1.given.0 n c.steps-1.given.0) c.tick.ensures
-    (came_back g.M.Memo.seat g.M.Memo.shard g.M.Memo.fronts g.M.Memo.origin (λ z. z.call.0) (λ z. z.call.2) (λ z. z.call.3.ghost_name) (λ z. z.call.3.now)
-    (λ z. z.call.4.ghost_name) (λ z. z.call.4.now) (λ z. z.call.5.ghost_name) (λ z. z.call.5.now) _
-    (λ z k r w e. let m = e.met.1 in (record { tops = m.0.0; same_rules = m.0.2; names = m.0.3; step_names = m.0.4; flag_names = m.0.5; flags = λ x. (m.1.1.1 x).0; ran = m.1.1.0 }, λ clear. (m.1.1.1 clear).1)) _ _ c.rule.new.forcer c.rule.ensures.asked.asked c.memo-1.given.0 c.steps-1.given.0 c.memo-1.given.1 c.steps-1.given.1)
+    (came_back g.M.Memo.seat g.M.Memo.shard g.M.Memo.fronts g.M.Memo.origin (λ z. z.call.0) (λ z. z.call.3) (λ z. z.call.4.ghost_name) (λ z. z.call.4.now)
+    (λ z. z.call.5.ghost_name) (λ z. z.call.5.now) (λ z. z.call.2.ghost_name) (λ z. z.call.2.now) _
+    (λ z k r w e. let m = e.met.1 in (record { tops = m.0.0; same_rules = m.0.3; names = m.0.4; step_names = m.0.5; lack_names = m.0.2; lacks = λ x. (m.1.1.1 x).0; ran = m.1.1.0 }, λ clear. (m.1.1.1 clear).1)) _ _ c.apply.new.forcer c.apply.ensures.asked.asked c.memo-1.given.0 c.steps-1.given.0 c.memo-1.given.1 c.steps-1.given.1)
 
 pub compute-returns-clause-ran : goal.compute-returns-clause-ran
 compute-returns-clause-ran g t c =
     subst (λ (n : ℕ). Ran g.M.Memo.seat g.M.Memo.shard g.M.Memo.fronts g.M.Memo.origin c.args.memo.now c.memo-1.given.0 n c.steps-1.given.0) c.tick.ensures
-    (came_back g.M.Memo.seat g.M.Memo.shard g.M.Memo.fronts g.M.Memo.origin (λ z. z.call.0) (λ z. z.call.2) (λ z. z.call.3.ghost_name) (λ z. z.call.3.now)
-    (λ z. z.call.4.ghost_name) (λ z. z.call.4.now) (λ z. z.call.5.ghost_name) (λ z. z.call.5.now) _
-    (λ z k r w e. let m = e.met.1 in (record { tops = m.0.0; same_rules = m.0.2; names = m.0.3; step_names = m.0.4; flag_names = m.0.5; flags = λ x. (m.1.1.1 x).0; ran = m.1.1.0 }, λ clear. (m.1.1.1 clear).1)) _ _ c.rule.new.forcer c.rule.ensures.asked.asked c.memo-1.given.0 c.steps-1.given.0 c.memo-1.given.1 c.steps-1.given.1)
+    (came_back g.M.Memo.seat g.M.Memo.shard g.M.Memo.fronts g.M.Memo.origin (λ z. z.call.0) (λ z. z.call.3) (λ z. z.call.4.ghost_name) (λ z. z.call.4.now)
+    (λ z. z.call.5.ghost_name) (λ z. z.call.5.now) (λ z. z.call.2.ghost_name) (λ z. z.call.2.now) _
+    (λ z k r w e. let m = e.met.1 in (record { tops = m.0.0; same_rules = m.0.3; names = m.0.4; step_names = m.0.5; lack_names = m.0.2; lacks = λ x. (m.1.1.1 x).0; ran = m.1.1.0 }, λ clear. (m.1.1.1 clear).1)) _ _ c.apply.new.forcer c.apply.ensures.asked.asked c.memo-1.given.0 c.steps-1.given.0 c.memo-1.given.1 c.steps-1.given.1)
 
 pub compute-returns-clause-needs : goal.compute-returns-clause-needs
 compute-returns-clause-needs g t c = ok_any c.new.result
     (HasValue c.args.key → Between (NeedsSettled (g.M.Memo.seat c.args.memo.now) g.M.Memo.shard c.args.key) (g.M.Memo.fronts c.args.memo.now) (g.M.Memo.fronts c.memo-1.given.0))
-    (λ has. needs_came_back g.M.Memo.seat g.M.Memo.shard g.M.Memo.fronts g.M.Memo.origin (λ z. z.call.0) (λ z. z.call.2) (λ z. z.call.3.ghost_name) (λ z. z.call.3.now)
-    (λ z. z.call.4.ghost_name) (λ z. z.call.4.now) (λ z. z.call.5.ghost_name) (λ z. z.call.5.now) _
-    (λ z k r w e. let m = e.met.1 in (record { tops = m.0.0; same_rules = m.0.2; names = m.0.3; step_names = m.0.4; flag_names = m.0.5; flags = λ x. (m.1.1.1 x).0; ran = m.1.1.0 }, λ clear. (m.1.1.1 clear).1)) c.args.key c.rule.ensures.asked.asks _ c.rule.new.forcer c.rule.ensures.asked.asked c.memo-1.given.0 _ c.memo-1.given.1 c.lacked-2-1.given.1 c.if-lacked.false
-    (covered c.args.key _ _ c.in_ok-outcome.was c.rule.ensures.asked.asks c.rule.ensures.outcome c.rule.ensures.asked.whole has))
+    (λ has. needs_came_back g.M.Memo.seat g.M.Memo.shard g.M.Memo.fronts g.M.Memo.origin (λ z. z.call.0) (λ z. z.call.3) (λ z. z.call.4.ghost_name) (λ z. z.call.4.now)
+    (λ z. z.call.5.ghost_name) (λ z. z.call.5.now) (λ z. z.call.2.ghost_name) (λ z. z.call.2.now) _
+    (λ z k r w e. let m = e.met.1 in (record { tops = m.0.0; same_rules = m.0.3; names = m.0.4; step_names = m.0.5; lack_names = m.0.2; lacks = λ x. (m.1.1.1 x).0; ran = m.1.1.0 }, λ clear. (m.1.1.1 clear).1)) c.args.key c.apply.ensures.asked.asks _ c.apply.new.forcer c.apply.ensures.asked.asked c.memo-1.given.0 _ c.memo-1.given.1 c.lacked-2-1.given.1 c.in-None.is
+    (covered c.args.key _ _ c.in_ok-outcome.was c.apply.ensures.asked.asks c.apply.ensures.outcome c.apply.ensures.asked.whole has))
 
 pub force_with-returns-in_err-value-clause-ran : goal.force_with-returns-in_err-value-clause-ran
 force_with-returns-in_err-value-clause-ran g t c =
@@ -171,3 +171,10 @@ pub force_with-returns-in-Full-clause-settled : goal.force_with-returns-in-Full-
 force_with-returns-in-Full-clause-settled g t c =
     let a = subst (λ z. IsClaimed (g.M.Memo.seat c.args.memo.now) (g.M.Memo.shard c.args.key) c.args.key (g.M.Memo.fronts c.args.memo.now) (g.M.Memo.fronts c.claim.new.self) (Ok z)) c.in-Full.is c.in_ok-value.ensures.answer in
     ok_any c.compute-in-Full.result _ ((full_done g.M.Memo.seat g.M.Memo.shard g.M.Memo.fronts g.M.Memo.origin c.args.key _ _ c.in_ok-value.ensures.seat c.in_ok-value.ensures.origin c.requires.free _ _ _ c.compute-in-Full.ensures.ran a.1).settled refl)
+
+pub compute-closure-returns-in-Err : goal.compute-closure-returns-in-Err
+compute-closure-returns-in-Err g t c = record {
+  key = tt;
+  ran = ran_self g.M.Memo.seat g.M.Memo.shard g.M.Memo.fronts g.M.Memo.origin c.captures.memo.now c.captures.steps.now;
+  settled = λ e. absurd (cc e);
+}

@@ -1,41 +1,54 @@
 use Rattle.std.proofs.Common.{◌≡◌, ◌∙◌, refl, arith, subst, sym, ap, Some, slice_get, eq-eqb}
+use Rattle.std.specs.Map.{keys_of, values_of}
 use Rattle.oracle_iface.specs.declared.cell_values.CellValue.{CellValue}
 use Rattle.core_board.specs.declared.events.Event.TheVariants.{Publish}
+use Rattle.memo_book.specs.Books.{changed}
 use Rattle.memo_book.specs.declared.book.State.TheVariants.{Held, Published}
-use Rattle.memo_book.proofs.Counts.{count_set}
+use Rattle.memo_book.proofs.Columns.{within_states, set_book, set_count, set_length, set_view}
 use Rattle.memo_book.proofs.Lists.{some_same}
-use Rattle.memo_book.proofs.Replays.{book_step, cell_of}
+use Rattle.memo_book.proofs.Replays.{cell_of}
 use Rattle.memo_book.proofs.book.Book.fill.Goals as goal
+
+pub index_mut-requires : goal.index_mut-requires
+index_mut-requires c =
+    within_states c.self.inside.table.entries c.args.i (Held c.args.seat)
+    (subst (λ v. slice_get v.states c.args.i ≡ Some (Held c.args.seat)) (sym c.self.view_is) c.requires.held)
 
 pub overflow_sub-self : goal.overflow_sub-self
 overflow_sub-self c =
     let s = c.self.inside in
-    let at : slice_get s.states.items c.args.i ≡ Some (Held c.args.seat) =
+    let at : slice_get (values_of s.table.entries) c.args.i ≡ Some (Held c.args.seat) =
     subst (λ v. slice_get v.states c.args.i ≡ Some (Held c.args.seat)) (sym c.self.view_is) c.requires.held in
-    let count = count_set s.states.items c.args.i (Held c.args.seat) (Published c.args.value) at in omega (arith, count, c.self.invariant.counted)
+    let count = set_count s.table.entries c.args.i (Held c.args.seat) (Published c.args.value) at in omega (arith, count, c.self.invariant.counted)
 
 pub push_reserved-requires : goal.push_reserved-requires
 push_reserved-requires c =
     let s = c.self.inside in
-    let at : slice_get s.states.items c.args.i ≡ Some (Held c.args.seat) =
+    let at : slice_get (values_of s.table.entries) c.args.i ≡ Some (Held c.args.seat) =
     subst (λ v. slice_get v.states c.args.i ≡ Some (Held c.args.seat)) (sym c.self.view_is) c.requires.held in
-    let count = count_set s.states.items c.args.i (Held c.args.seat) (Published c.args.value) at in
+    let count = set_count s.table.entries c.args.i (Held c.args.seat) (Published c.args.value) at in
     omega (arith, count, c.self.invariant.counted, c.self.invariant.room)
 
 pub invariant_of-self : goal.invariant_of-self
 invariant_of-self c =
     let s = c.self.inside in
-    let at : slice_get s.states.items c.args.i ≡ Some (Held c.args.seat) =
+    let at : slice_get (values_of s.table.entries) c.args.i ≡ Some (Held c.args.seat) =
     subst (λ v. slice_get v.states c.args.i ≡ Some (Held c.args.seat)) (sym c.self.view_is) c.requires.held in
-    let key : slice_get s.keys.items c.args.i ≡ Some c.args.value.key =
+    let key : slice_get (keys_of s.table.entries) c.args.i ≡ Some c.args.value.key =
     subst (λ v. slice_get v.keys c.args.i ≡ Some c.args.value.key) (sym c.self.view_is) c.requires.value in
-    let count = count_set s.states.items c.args.i (Held c.args.seat) (Published c.args.value) at in
+    let count = set_count s.table.entries c.args.i (Held c.args.seat) (Published c.args.value) at in
+    let sized = set_length s.table.entries c.args.i (Published c.args.value) in
     record {
-      book = book_step s.keys.items s.states.items s.journal.items c.push_reserved.new.self.items c.args.i (Held c.args.seat) (Published c.args.value) (Publish c.args.seat c.args.i)
+      book = set_book s.table.entries s.journal.items c.push_reserved.new.self.items c.args.i (Held c.args.seat) (Published c.args.value) (Publish c.args.seat c.args.i)
           c.self.invariant.book at refl (eq-eqb c.args.seat c.args.seat refl) refl
           (λ k ek v e. ap (λ (z : CellValue). z.key) (sym (ap (cell_of c.args.value) e)) ∙ some_same c.args.value.key k (sym key ∙ ek)) c.push_reserved.ensures.items;
-      index = c.self.invariant.index;
       counted = omega (arith, count, c.self.invariant.counted);
       room = omega (arith, count, c.self.invariant.counted, c.self.invariant.room, c.push_reserved.ensures.len, c.push_reserved.ensures.capacity);
-      few = c.self.invariant.few;
+      few = omega (arith, sized, c.self.invariant.few);
     }
+
+pub returns : goal.returns
+returns c =
+    set_view c.self.inside.table.entries c.self.inside.journal.items c.push_reserved.new.self.items c.args.i (Published c.args.value) (Publish c.args.seat c.args.i)
+    c.push_reserved.ensures.items
+    ∙ ap (λ v. changed v c.args.i (Published c.args.value) (Publish c.args.seat c.args.i)) c.self.view_is

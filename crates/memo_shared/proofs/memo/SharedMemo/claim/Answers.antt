@@ -10,5 +10,5 @@ returns-clause-pass g c = (
 
 pub returns-clause-answer : goal.returns-clause-answer
 returns-clause-answer g c =
-    lifts_claim c.args.pass.now.parts.items _ _ c.index_mut.result.now c.claim_part.new.part c.shard_of-place.ensures.number (search rules) c.index_mut.ensures.value c.args.pass.now.seat
+    lifts_claim c.args.pass.now.parts.items _ _ c.index_mut.result.now c.claim_part.new.part c.place_of-place.ensures.number (search rules) c.index_mut.ensures.value c.args.pass.now.seat
     c.args.key.now c.claim_part.result c.claim_part.ensures.answer

@@ -10,5 +10,5 @@ returns-clause-pass g c = (
 
 pub returns-clause-answer : goal.returns-clause-answer
 returns-clause-answer g c =
-    lifts_look c.args.pass.now.parts.items _ _ c.index_mut.result.now c.look_part.new.part c.shard_of-place.ensures.number (search rules) c.index_mut.ensures.value c.args.pass.now.seat
+    lifts_look c.args.pass.now.parts.items _ _ c.index_mut.result.now c.look_part.new.part c.place_of-place.ensures.number (search rules) c.index_mut.ensures.value c.args.pass.now.seat
     c.args.key.now c.look_part.result c.look_part.ensures.answer
