@@ -9,6 +9,8 @@ mod line_tests;
 #[cfg(test)]
 mod line_texts;
 #[cfg(test)]
+mod place_tests;
+#[cfg(test)]
 mod reply_tests;
 #[cfg(test)]
 mod simplex_tests;

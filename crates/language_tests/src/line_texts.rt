@@ -178,7 +178,7 @@ fn push_read(
     match read {
         Ok(Some(c)) => push_command(out, c),
         Ok(None) => out.push_str("nothing"),
-        Err(LineRefused::Syntax) => out.push_str("refused"),
+        Err(LineRefused::Syntax(_)) => out.push_str("refused"),
         Err(LineRefused::Memory) => out.push_str("memory"),
     }
 }

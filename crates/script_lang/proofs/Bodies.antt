@@ -158,7 +158,7 @@ module _ (IsPart : List ℕ → SimplexText → Type 0) (part : List ℕ → Rea
   unfolding signed_letter_in
   reads_signed inverse = reads_then _ simplex_end simplex_end IsPart _ part _ one (λ x. reads_done _ simplex_end (record { inverse = inverse; simplex = x })) (done_between simplex_end _)
 
-  reads_letter : Scans (simplex_end {A = LetterText}) (IsLetter IsPart) (letter_in part)
+  pub reads_letter : Scans (simplex_end {A = LetterText}) (IsLetter IsPart) (letter_in part)
   unfolding letter_in
   reads_letter = reads_perhaps simplex_end 45 (IsSigned IsPart) (signed_letter_in part) (reads_signed true) (reads_signed false)
       (λ v back more t c. begins_not is_start (λ b. eqb b 45) start_no_minus back more (starts_then is_start IsPart _ part_starts back v t))
@@ -174,7 +174,7 @@ module _ (IsPart : List ℕ → SimplexText → Type 0) (part : List ℕ → Rea
   letter_starts front l (inr t) = starts_as is_start is_first start_first front (starts_then is_start IsPart _ part_starts front l t)
 
   -- another letter
-  abbrev IsNext : List ℕ → LetterText → Type 0
+  abbrev pub IsNext : List ℕ → LetterText → Type 0
   IsNext = IsGap ▷ λ _. IsLetter IsPart
 
   abbrev SomeNext : List ℕ → Option LetterText → Type 0
@@ -184,7 +184,7 @@ module _ (IsPart : List ℕ → SimplexText → Type 0) (part : List ℕ → Rea
   Next true = Done None
   Next false = SomeNext
 
-  abbrev next_may : Option LetterText → List ℕ → Bool
+  abbrev pub next_may : Option LetterText → List ℕ → Bool
   next_may None more = true
   next_may (Some l) more = cond (begins is_inside more) false true
 
@@ -235,7 +235,7 @@ module _ (IsPart : List ℕ → SimplexText → Type 0) (part : List ℕ → Rea
   from_next rs None e = inl (record { value = tt; front = 93 ∷ []; back = []; whole = e; first = refl; second = record { none = refl; same = refl } })
   from_next rs (Some l) t = inr (some_next rs l t)
 
-  reads_more_letters : Scans next_may (Part (93 ∷ []) IsNext) (more_letters_in part)
+  pub reads_more_letters : Scans next_may (Part (93 ∷ []) IsNext) (more_letters_in part)
   unfolding more_letters_in
   reads_more_letters = reads_as _ next_may _ _ _ to_next from_next
       (reads_perhaps next_may 93 Next (next_letter_in part) (reads_next true) (reads_next false)
@@ -315,7 +315,7 @@ module _ (IsPart : List ℕ → SimplexText → Type 0) (part : List ℕ → Rea
 
 -- ---- the sign of a body
 
-abbrev head_may : BodySign → List ℕ → Bool
+abbrev pub head_may : BodySign → List ℕ → Bool
 head_may signs.Star more = true
 head_may (signs.Name name) more = cond (begins is_inner more) false true
 head_may signs.Up more = true
@@ -456,7 +456,7 @@ unfolding head_in
 head_within room [] left e = let same : 0 ≡ left = cc in omega arith
 head_within room (b ∷ bytes) left e = head_within_at b bytes (sign_of room b) left e
 
-reads_head : (room : ℕ) → Scans head_may (IsSign room) (head_in room)
+pub reads_head : (room : ℕ) → Scans head_may (IsSign room) (head_in room)
 reads_head room = record {
   takes = head_takes room;
   again = λ bytes front v more is e m. record { rest = more; gives = head_gives room bytes front v more is e m; units_are = refl };

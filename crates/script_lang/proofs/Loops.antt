@@ -65,7 +65,7 @@ module _ {A : Type 0} (part : List ℕ → Reading (Option A)) (shorter : Shorte
       let p = ok_parts (x ∷ b.0.0) xs b.0.1 after b.2 in
       something x b.0.0 rest e (b.1 ∙ ap (reading b.0.0) p.1) (sym p.0)
 
-  is_until : (bytes : List ℕ) (xs : List A) (after : List ℕ) → until_at part bytes ≡ Ok (xs, after) → IsUntil bytes xs after
+  pub is_until : (bytes : List ℕ) (xs : List A) (after : List ℕ) → until_at part bytes ≡ Ok (xs, after) → IsUntil bytes xs after
   is_until bytes xs after e = until_by bytes (part bytes) xs after refl (sym (until_step bytes) ∙ e)
 
   pub data UntilErr (bytes : List ℕ) (left : ℕ) : Type 0 where
@@ -80,7 +80,7 @@ module _ {A : Type 0} (part : List ℕ → Reading (Option A)) (shorter : Shorte
     | inr y ↦ let bad = y.2 in absurd cc
   ]
 
-  is_err : (bytes : List ℕ) (left : ℕ) → until_at part bytes ≡ Err left → UntilErr bytes left
+  pub is_err : (bytes : List ℕ) (left : ℕ) → until_at part bytes ≡ Err left → UntilErr bytes left
   is_err bytes left e = err_by bytes (part bytes) left refl (sym (until_step bytes) ∙ e)
 
   module _ {U : Type 0} (units : List ℕ → List U) (may : Option A → List U → Bool) (can : List A → List U → Bool) (end : List U) (L : List U → A → Type 0) (one : Reads units may (Part end L) part) where

@@ -127,14 +127,14 @@ reads_command_behind command_words.Homology = reads_homology
 reads_command_behind command_words.Boundary = reads_boundary
 reads_command_behind command_words.Express = reads_express
 
-reads_command : Lines IsCommand command_at
+pub reads_command : Lines IsCommand command_at
 unfolding command_at
 reads_command = reads_on _ (Sign opening) _ opening_at _ reads_opening
     (λ _. reads_on _ (Word IsCommandWord) IsCommandBehind (word_at command_word_of) _ (reads_word IsCommandWord command_word_of judging_command_word) reads_command_behind)
 
 -- ---- lines
 
-is_done_again : (bytes : List ℕ) → runs bytes ≡ [] → is_done bytes ≡ true
+pub is_done_again : (bytes : List ℕ) → runs bytes ≡ [] → is_done bytes ≡ true
 is_done_again bytes none = eq-eqb (run_len (after_blanks bytes)) 0 (not_ended bytes none)
 
 is_done_takes : (bytes : List ℕ) → is_done bytes ≡ true → runs bytes ≡ []

@@ -23,7 +23,7 @@ done_between may make v w back more d c = subst (λ (x : List ℕ). may v (x ++ 
 
 -- ---- degeneracies
 
-abbrev Separator : List ℕ → Bool → Type 0
+abbrev pub Separator : List ℕ → Bool → Type 0
 Separator bytes true = bytes ≡ 45 ∷ []
 Separator bytes false = bytes ≡ 58 ∷ []
 
@@ -57,7 +57,7 @@ separator_within (b ∷ bytes) left e = elim (which (eqb b 45)) [
 separator_shorter : (bytes : List ℕ) (v : Bool) (rest : List ℕ) → separator_in bytes ≡ Ok (v, rest) → length rest < length bytes
 separator_shorter bytes v rest e = let t = separator_takes bytes v rest e in omega (arith, ap length t.2, length-append t.0 rest, t.3)
 
-reads_separator : Scans (always {A = Bool}) Separator separator_in
+pub reads_separator : Scans (always {A = Bool}) Separator separator_in
 reads_separator = record {
   takes = λ bytes v rest e. let t = separator_takes bytes v rest e in record { front = t.0; is = t.1; units_are = t.2 };
   again = λ bytes front v more is e m. record { rest = more; gives = rw e (separator_again v front more is); units_are = refl };
@@ -69,7 +69,7 @@ abbrev NextDegen : Bool → List ℕ → Option ℕ → Type 0
 NextDegen true = IsNumber ▷ λ n. Done (Some n)
 NextDegen false = Done None
 
-abbrev degen_may : Option ℕ → List ℕ → Bool
+abbrev pub degen_may : Option ℕ → List ℕ → Bool
 degen_may None more = true
 degen_may (Some n) more = cond (begins is_digit more) false true
 
@@ -96,7 +96,7 @@ from_degen : (rs : List ℕ) (w : Option ℕ) → Part (58 ∷ []) IsDegen rs w 
 from_degen rs None is = record { value = false; front = rs; back = []; whole = sym (append-nil rs); first = is; second = record { none = refl; same = refl } }
 from_degen rs (Some n) t = record { value = true; front = t.front; back = t.back; whole = t.whole; first = t.first; second = record { value = n; front = t.back; back = []; whole = sym (append-nil t.back); first = t.second; second = record { none = refl; same = refl } } }
 
-reads_degen : Scans degen_may (Part (58 ∷ []) IsDegen) degen_in
+pub reads_degen : Scans degen_may (Part (58 ∷ []) IsDegen) degen_in
 unfolding degen_in
 reads_degen = reads_as _ degen_may _ _ _ (λ rs w t. to_degen_at t.value t.front t.back rs w t.whole t.first t.second) from_degen
     (reads_then _ always degen_may Separator NextDegen separator_in (λ more. next_degen_in more.0 more.1) reads_separator reads_next_degen (λ v w back more is c. refl))

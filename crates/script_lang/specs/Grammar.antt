@@ -190,4 +190,4 @@ IsLine line asked = (length line ≤ 65536) × IsAsked (runs line) asked
 abbrev pub IsReadAs : Option Command → Result (Option Command) LineRefused → Type 0
 IsReadAs asked (Ok read) = read ≡ asked
 IsReadAs asked (Err refusals.Memory) = Unit {0}
-IsReadAs asked (Err refusals.Syntax) = ⊥
+IsReadAs asked (Err (refusals.Syntax fault)) = ⊥

@@ -6,6 +6,7 @@ pub mod Readings
 pub mod Scans
 pub mod Words
 pub mod Lines
+pub mod Places
 pub mod Meaning
 pub mod Resolved
 pub mod Examples

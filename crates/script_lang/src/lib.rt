@@ -17,7 +17,7 @@ mod words;
 
 pub use commands::Command;
 pub use exprs::{Expr, PairText, PairTextList};
-pub use faults::LineRefused;
+pub use faults::{LineRefused, SyntaxFault, SyntaxKind};
 pub use laws::{one_command, worked_lines};
 pub use lines::read_line;
 pub use resolving::{ResolveFault, resolve};

@@ -47,10 +47,6 @@ pub(crate) fn divide(
     ensures filling_width { IfOk result (λ d. length d.filling.values ≡ length next.now) }
     ensures filling { IfOk result (λ d. (a : Space) → d.filling.values ≡ filling_over small_cmp (number p) cells.now (small_chains chains.now) (small_chains next.now) a (coordinates_over small_cmp (number p) cells.now image.now.terms)) }
 {
-    let most = u32::MAX as usize;
-    if cells.len() > most || next.len() >= most {
-        return Err(AllocError);
-    }
     let span = span_basis(alloc, p, cells, next)?;
     let cycles = cycle_rows(alloc, p, cells, chains, next)?;
     let vector = coordinate_row(alloc, p, cells, 0, image)?;

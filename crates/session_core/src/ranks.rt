@@ -29,11 +29,8 @@ pub(crate) fn rank(
     requires chains { All (λ v. HasSmallOver p v.outcome) chains.now }
     ensures { IfOk result (λ r. r ≡ rank_over small_cmp (number p) cells.now (small_chains chains.now)) }
 {
-    if cells.len() > u32::MAX as usize {
-        return Err(AllocError);
-    }
     let rows = FpRowList::from_rows(coordinate_rows(alloc, p, cells, chains)?);
-    rank_of(alloc, &matrix_of(p, cells.len() as u32, rows))
+    rank_of(alloc, &matrix_of(p, cells.len(), rows))
 }
 
 /// How many combinations of the small chains that cells of the table hold are 0: the length of a basis of these.

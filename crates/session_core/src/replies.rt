@@ -35,7 +35,7 @@ pub(crate) fn reply_to<A: Answerer>(
     match read_line(alloc, line) {
         Ok(Some(command)) => answer(alloc, settings, &command, answerer),
         Ok(None) => Ok(Reply::Empty),
-        Err(LineRefused::Syntax) => Ok(Reply::Refused(Refusal::Syntax)),
+        Err(LineRefused::Syntax(_)) => Ok(Reply::Refused(Refusal::Syntax)),
         Err(LineRefused::Memory) => Err(LineFault::Memory),
     }
 }

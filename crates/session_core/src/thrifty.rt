@@ -20,8 +20,7 @@ fn relations_behind(
 ) -> Result<Echelon, AllocError>
     requires row { IsRow p (length row.values) row }
     requires rows { All (IsRow p (length row.values)) rows.items }
-    requires width { length row.values < 2 ^ 32 }
-    requires count { length rows.items + 1 < 2 ^ 32 }
+    requires width { length row.values < 2 ^ 63 }
     ensures prime { IfOk result (λ e. e.prime ≡ p) }
     ensures width { IfOk result (λ e. e.width ≡ length rows.items + 1) }
     ensures rows { IfOk result (λ e. e.rows ≡ reduced_basis (number p) (length rows.items + 1) (in_kernel (number p) (length row.values) (row.values ∷ reverse (vectors_of rows.items)))) }
@@ -30,10 +29,7 @@ fn relations_behind(
     let mut all = rows;
     all.push(row)?;
     all.reverse();
-    relations(
-        alloc,
-        &matrix_of(p, width as u32, FpRowList::from_rows(all)),
-    )
+    relations(alloc, &matrix_of(p, width, FpRowList::from_rows(all)))
 }
 
 /// The entries of a row after the first place, from the last to the first, each with the other sign.
@@ -61,8 +57,7 @@ pub(crate) fn thrifty_of(
 ) -> Result<FpRow, AllocError>
     requires row { IsRow p (length row.values) row }
     requires rows { All (IsRow p (length row.values)) rows.items }
-    requires width { length row.values < 2 ^ 32 }
-    requires count { length rows.items + 1 < 2 ^ 32 }
+    requires width { length row.values < 2 ^ 63 }
     ensures prime { IfOk result (λ r. r.prime ≡ p) }
     ensures width { IfOk result (λ r. length r.values ≡ length rows.items) }
     ensures values { IfOk result (λ r. (a : Space) → r.values ≡ thrifty_numbers (number p) a (length row.values) (vectors_of rows.items) row.values) }

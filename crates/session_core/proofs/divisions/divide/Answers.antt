@@ -1,4 +1,4 @@
-use Rattle.std.proofs.Common.{◌≡◌, ◌<◌, ◌%◌, All, length, sym, ◌∙◌, ap, subst, arith}
+use Rattle.std.proofs.Common.{◌≡◌, ◌%◌, All, length, sym, ◌∙◌, ap, subst}
 use Rattle.std.proofs.lemmas.List.{length-map}
 use Rattle.std.proofs.lemmas.List.Elements.{All-same}
 use Rattle.std.specs.Ordering.{eq_by_cmp}
@@ -40,14 +40,6 @@ pub thrifty_of-requires-clause-rows : goal.thrifty_of-requires-clause-rows
 thrifty_of-requires-clause-rows c =
     let row = coordinates-row small_cmp c.args.p c.args.cells.now c.args.image.now.terms c.in_ok-vector.vector c.in_ok-vector.ensures.prime c.in_ok-vector.ensures.values in
     subst (λ n. All (IsRow c.args.p n) c.in_ok-boundaries.boundaries.items) (sym (c.in_ok-rest.ensures.row.vector.wide ∙ row.vector.wide)) c.in_ok-boundaries.ensures.each
-
-pub thrifty_of-requires-clause-count : goal.thrifty_of-requires-clause-count
-thrifty_of-requires-clause-count c =
-    let count : length c.in_ok-boundaries.boundaries.items ≡ length c.args.next.now =
-    sym (length-map c.in_ok-boundaries.boundaries.items (λ (x : DenseRow). x.values)) ∙ ap length c.in_ok-boundaries.ensures.rows
-    ∙ length-map (small_chains c.args.next.now) (λ d. coordinates_over small_cmp (number c.args.p) c.args.cells.now d)
-    ∙ length-map c.args.next.now (λ (v : CellValue). (small_in v.outcome).terms) in
-    let l : length c.args.next.now < 4294967295 = c.if-next-most.false in omega (arith, count, l)
 
 pub returns-clause-class : goal.returns-clause-class
 returns-clause-class c = (c.in_ok-class.ensures.values ∙ (λ i. coordinates (c.in_ok-cycles.ensures.rows i) ((c.in_ok-left.ensures.values ∙ (λ i. remainder (number (c.in_ok-span.ensures.prime i)) (c.in_ok-span.ensures.width i) (c.in_ok-span.ensures.rows i) ((c.in_ok-vector.ensures.values ∙ nothing-more (coordinates_over small_cmp (number c.args.p) c.args.cells.now c.args.image.now.terms)) i))) i)))

@@ -2,6 +2,7 @@ use Rattle.std.proofs.Common.{◌≡◌, ℕ, List, Option, Some, None, Err, sym
 use Rattle.script_lang.specs.declared.commands.Command.{Command}
 use Rattle.script_lang.specs.declared.faults.LineRefused.{LineRefused}
 use Rattle.script_lang.specs.declared.faults.LineRefused.TheVariants as refusals
+use Rattle.script_lang.specs.declared.faults.SyntaxFault.{SyntaxFault}
 use Rattle.script_lang.specs.Grammar.{IsLine, IsReadAs}
 use Rattle.std.specs.Prelude.{is_ok}
 use Rattle.session_core.specs.Answer.{answer as answer_by}
@@ -16,8 +17,8 @@ use Rattle.session_core.proofs.replies.reply_to.Goals as goal
 is_line : (line : List ℕ) (x y : Option Command) → x ≡ y → IsLine line x → IsLine line y
 is_line line x y e h = subst (IsLine line) e h
 
-no_line_is : (line : List ℕ) (f : LineRefused) → f ≡ refusals.Syntax → ((c : Option Command) → IsLine line c → IsReadAs c (Err f)) → (c : Option Command) → IsLine line c → ⊥
-no_line_is line f e h c is = subst (λ x. IsReadAs c (Err x)) e (h c is)
+no_line_is : (line : List ℕ) (f : LineRefused) (fault : SyntaxFault) → f ≡ refusals.Syntax fault → ((c : Option Command) → IsLine line c → IsReadAs c (Err f)) → (c : Option Command) → IsLine line c → ⊥
+no_line_is line f fault e h c is = subst (λ x. IsReadAs c (Err x)) e (h c is)
 
 pub returns-in-Ok-Some-clause-reply : goal.returns-in-Ok-Some-clause-reply
 returns-in-Ok-Some-clause-reply g c =
@@ -46,14 +47,14 @@ returns-in-Ok-None-clause-asked g c =
 
 pub returns-in-Err-Syntax-clause-reply : goal.returns-in-Err-Syntax-clause-reply
 returns-in-Err-Syntax-clause-reply g c =
-    let e : c.in-Err-Syntax.field-0 ≡ refusals.Syntax = cc in
-    no_line (state_of c.args.settings.now) c.args.line.now (no_line_is c.args.line.now c.in-Err-Syntax.field-0 e c.in-Err-Syntax.ensures.only)
+    let e : c.in-Err-Syntax.field-0 ≡ refusals.Syntax c.in-Err-Syntax.field-0-0 = cc in
+    no_line (state_of c.args.settings.now) c.args.line.now (no_line_is c.args.line.now c.in-Err-Syntax.field-0 c.in-Err-Syntax.field-0-0 e c.in-Err-Syntax.ensures.only)
 
 pub returns-in-Err-Syntax-clause-asked : goal.returns-in-Err-Syntax-clause-asked
 returns-in-Err-Syntax-clause-asked g c =
     let s = state_of c.args.settings.now in
-    let e : c.in-Err-Syntax.field-0 ≡ refusals.Syntax = cc in
-    asks_none g.A.Answerer.answers (line_keys s c.args.line.now) c.args.answerer.now _ (no_line_keys s c.args.line.now (no_line_is c.args.line.now c.in-Err-Syntax.field-0 e c.in-Err-Syntax.ensures.only))
+    let e : c.in-Err-Syntax.field-0 ≡ refusals.Syntax c.in-Err-Syntax.field-0-0 = cc in
+    asks_none g.A.Answerer.answers (line_keys s c.args.line.now) c.args.answerer.now _ (no_line_keys s c.args.line.now (no_line_is c.args.line.now c.in-Err-Syntax.field-0 c.in-Err-Syntax.field-0-0 e c.in-Err-Syntax.ensures.only))
 
 pub returns-in-Err-Memory-clause-asked : goal.returns-in-Err-Memory-clause-asked
 returns-in-Err-Memory-clause-asked g c = asks_not_yet g.A.Answerer.answers (line_keys (state_of c.args.settings.now) c.args.line.now) c.args.answerer.now
