@@ -33,6 +33,7 @@ fn cell_of_the_sphere() -> Simplex
 // The list of integers that the twisting operator gives at the cell.
 fn twist_at_the_cell(alloc: Global) -> Result<IntList, AllocError> {
     let base = sphere_table(alloc, 2)?;
+    let _ = base.rows();
     let values = five_on_the_cell(alloc)?;
     cocycle_tau(alloc, &base, &values, &cell_of_the_sphere())
 }

@@ -22,3 +22,5 @@ mod torus_map_tests;
 mod torus_tests;
 #[cfg(test)]
 mod value_tests;
+#[cfg(test)]
+mod word_tests;

@@ -68,6 +68,7 @@ fn bundle_of_one(alloc: Global) -> Result<Term, AllocError>
     ensures { IfOk result (λ t. (rows : List Row) × (t ≡ Bundle rows (pos 0 ∷ (pos 1 ∷ []))) × IsTable (rows_of rows) × IsSphereTable 2 rows) }
 {
     let base = sphere_table(alloc, 2)?;
+    let _ = base.rows();
     let values = zero_and_one(alloc)?;
     Ok(Term::Bundle(base, values))
 }

@@ -2,8 +2,9 @@
 use std::alloc::{AllocError, Global};
 use std::fmt::Debug;
 
-// What a value shows of the structs that it is made of, and what stands for it: a simplex is its mask before its cell, and a tensor its parts.
-const FRAMES: [(&str, &str); 9] = [
+// What a value shows of the structs that it is made of, and what stands for it: a simplex is its mask before its cell, a tensor its parts,
+// and a letter whether it is an inverse and its simplex.
+const FRAMES: [(&str, &str); 11] = [
     ("Simplex { degens: Degens { mask: ", ""),
     (" }, cell: ", ":"),
     ("Tensor { left: ", ""),
@@ -13,6 +14,8 @@ const FRAMES: [(&str, &str); 9] = [
     ("Fp { value: ", ""),
     ("Chain { prime: ", ""),
     (", terms:", ""),
+    ("Letter { inverse: ", ""),
+    (", simplex: ", " "),
 ];
 
 /// Writes a line of a name and a value.

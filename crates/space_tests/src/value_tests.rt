@@ -6,6 +6,7 @@ use crate::pair_face_tests::{push_bundle_faces, push_torus_faces};
 use crate::texts::unframed;
 use crate::torus_map_tests::push_torus_maps;
 use crate::torus_tests::push_torus;
+use crate::word_tests::push_words;
 use std::alloc::{AllocError, Global};
 use std::test::Fail;
 use term_lang::Term;
@@ -44,6 +45,15 @@ AW <S2,|2|3|> = Five [(Base * Ints([2, 3]), 1), (Top(2) * Ints([]), 1)]
 flow <S2,|2|3|> = Five [(Pair(1:Top(2), 2:Ints([2, 3])), 4), (Pair(1:Top(2), 6:Ints([3])), 4), (Pair(2:Top(2), 5:Ints([3])), 1)]
 ";
 
+// Both letters of x y have place 1, which is place 0 of the word.
+const WORDS: &str = "x x^-1 = []
+x y y^-1 x^-1 y = [false 10:Top(2)]
+inverse of x y^-1 = [false 10:Top(2), true 6:Top(2)]
+x (s_0) x^-1 y = [false 10:Top(2)]
+norm of x y = 1:Word([false 2:Top(2), false 4:Top(2)])
+norm of [] = 7:Word([])
+";
+
 fn faces(alloc: Global) -> Result<String, AllocError> {
     let mut out = String::new(alloc);
     push_cocycle(&mut out, alloc)?;
@@ -62,6 +72,12 @@ fn maps(alloc: Global) -> Result<String, AllocError> {
     unframed(alloc, out.as_str())
 }
 
+fn words(alloc: Global) -> Result<String, AllocError> {
+    let mut out = String::new(alloc);
+    push_words(&mut out, alloc)?;
+    unframed(alloc, out.as_str())
+}
+
 #[test]
 fn faces_and_boundaries(rt: HostRuntime) -> Result<(), Fail> {
     let found = faces(rt.alloc())?;
@@ -73,5 +89,12 @@ fn faces_and_boundaries(rt: HostRuntime) -> Result<(), Fail> {
 fn maps_of_pairs(rt: HostRuntime) -> Result<(), Fail> {
     let found = maps(rt.alloc())?;
     assert_eq!(rt; found.as_str(), MAPS);
+    Ok(())
+}
+
+#[test]
+fn words_of_letters(rt: HostRuntime) -> Result<(), Fail> {
+    let found = words(rt.alloc())?;
+    assert_eq!(rt; found.as_str(), WORDS);
     Ok(())
 }

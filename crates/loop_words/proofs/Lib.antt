@@ -1,0 +1,12 @@
+pub mod OnTop
+pub mod Reductions
+pub mod CodeGroup
+pub mod InSpaces
+pub mod FaceSteps
+pub mod ApartLetters
+pub mod MovedPlaces
+pub mod LeftPlaces
+pub mod WordCells
+pub mod StrippedWords
+pub mod StripSteps
+pub mod CellWords
