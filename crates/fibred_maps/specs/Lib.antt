@@ -1,0 +1,2 @@
+pub mod Fibred
+pub mod Joined
