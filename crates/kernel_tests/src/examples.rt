@@ -1,7 +1,7 @@
 // The sessions of examples/ and of the documents. Written by examples/embed.
 
 /// How many there are.
-pub const COUNT: u32 = 43;
+pub const COUNT: u32 = 44;
 
 /// The name of each, what is typed and what is printed, with a `~` behind each of these. They are one text, since a table of texts is
 /// slow to prove.
@@ -400,6 +400,90 @@ coefficients
 chain (2 g0) (2 g1) (1 g2) (1 h0)
 coefficients 4
 chain 0
+~limits~; Each limit of a session at its bound, and one past it. A line past a limit changes nothing.
+; The dimension of a sphere is 1 to 16.
+(setf s (sphere 16))
+(setf x (sphere 17))
+(setf c (sphere 1))
+(setf x (sphere 0))
+; Degrees go to 16.
+(betti s 15 16)
+(betti s 15 17)
+(homology s 16)
+(homology s 17)
+; A space is at most 8 constructions deep, and texts of spaces stand at most 16 within one another.
+(setf d (suspension (suspension (suspension (suspension (suspension (suspension (suspension (sphere 1)))))))))
+(betti d 7 8)
+(setf x (suspension d))
+(betti (suspension (suspension (suspension (suspension (suspension (suspension (suspension (suspension (suspension (suspension (suspension (suspension (suspension (suspension (suspension (sphere 1)))))))))))))))) 0 1)
+(betti (suspension (suspension (suspension (suspension (suspension (suspension (suspension (suspension (suspension (suspension (suspension (suspension (suspension (suspension (suspension (suspension (sphere 1))))))))))))))))) 0 1)
+; A table has at most 256 rows, and a row at most 17 faces.
+(setf rows (table (v0) (v1) (v2) (v3) (v4) (v5) (v6) (v7) (v8) (v9) (v10) (v11) (v12) (v13) (v14) (v15) (v16) (v17) (v18) (v19) (v20) (v21) (v22) (v23) (v24) (v25) (v26) (v27) (v28) (v29) (v30) (v31) (v32) (v33) (v34) (v35) (v36) (v37) (v38) (v39) (v40) (v41) (v42) (v43) (v44) (v45) (v46) (v47) (v48) (v49) (v50) (v51) (v52) (v53) (v54) (v55) (v56) (v57) (v58) (v59) (v60) (v61) (v62) (v63) (v64) (v65) (v66) (v67) (v68) (v69) (v70) (v71) (v72) (v73) (v74) (v75) (v76) (v77) (v78) (v79) (v80) (v81) (v82) (v83) (v84) (v85) (v86) (v87) (v88) (v89) (v90) (v91) (v92) (v93) (v94) (v95) (v96) (v97) (v98) (v99) (v100) (v101) (v102) (v103) (v104) (v105) (v106) (v107) (v108) (v109) (v110) (v111) (v112) (v113) (v114) (v115) (v116) (v117) (v118) (v119) (v120) (v121) (v122) (v123) (v124) (v125) (v126) (v127) (v128) (v129) (v130) (v131) (v132) (v133) (v134) (v135) (v136) (v137) (v138) (v139) (v140) (v141) (v142) (v143) (v144) (v145) (v146) (v147) (v148) (v149) (v150) (v151) (v152) (v153) (v154) (v155) (v156) (v157) (v158) (v159) (v160) (v161) (v162) (v163) (v164) (v165) (v166) (v167) (v168) (v169) (v170) (v171) (v172) (v173) (v174) (v175) (v176) (v177) (v178) (v179) (v180) (v181) (v182) (v183) (v184) (v185) (v186) (v187) (v188) (v189) (v190) (v191) (v192) (v193) (v194) (v195) (v196) (v197) (v198) (v199) (v200) (v201) (v202) (v203) (v204) (v205) (v206) (v207) (v208) (v209) (v210) (v211) (v212) (v213) (v214) (v215) (v216) (v217) (v218) (v219) (v220) (v221) (v222) (v223) (v224) (v225) (v226) (v227) (v228) (v229) (v230) (v231) (v232) (v233) (v234) (v235) (v236) (v237) (v238) (v239) (v240) (v241) (v242) (v243) (v244) (v245) (v246) (v247) (v248) (v249) (v250) (v251) (v252) (v253) (v254) (v255)))
+(betti rows 0 0)
+(setf rows (table (v0) (v1) (v2) (v3) (v4) (v5) (v6) (v7) (v8) (v9) (v10) (v11) (v12) (v13) (v14) (v15) (v16) (v17) (v18) (v19) (v20) (v21) (v22) (v23) (v24) (v25) (v26) (v27) (v28) (v29) (v30) (v31) (v32) (v33) (v34) (v35) (v36) (v37) (v38) (v39) (v40) (v41) (v42) (v43) (v44) (v45) (v46) (v47) (v48) (v49) (v50) (v51) (v52) (v53) (v54) (v55) (v56) (v57) (v58) (v59) (v60) (v61) (v62) (v63) (v64) (v65) (v66) (v67) (v68) (v69) (v70) (v71) (v72) (v73) (v74) (v75) (v76) (v77) (v78) (v79) (v80) (v81) (v82) (v83) (v84) (v85) (v86) (v87) (v88) (v89) (v90) (v91) (v92) (v93) (v94) (v95) (v96) (v97) (v98) (v99) (v100) (v101) (v102) (v103) (v104) (v105) (v106) (v107) (v108) (v109) (v110) (v111) (v112) (v113) (v114) (v115) (v116) (v117) (v118) (v119) (v120) (v121) (v122) (v123) (v124) (v125) (v126) (v127) (v128) (v129) (v130) (v131) (v132) (v133) (v134) (v135) (v136) (v137) (v138) (v139) (v140) (v141) (v142) (v143) (v144) (v145) (v146) (v147) (v148) (v149) (v150) (v151) (v152) (v153) (v154) (v155) (v156) (v157) (v158) (v159) (v160) (v161) (v162) (v163) (v164) (v165) (v166) (v167) (v168) (v169) (v170) (v171) (v172) (v173) (v174) (v175) (v176) (v177) (v178) (v179) (v180) (v181) (v182) (v183) (v184) (v185) (v186) (v187) (v188) (v189) (v190) (v191) (v192) (v193) (v194) (v195) (v196) (v197) (v198) (v199) (v200) (v201) (v202) (v203) (v204) (v205) (v206) (v207) (v208) (v209) (v210) (v211) (v212) (v213) (v214) (v215) (v216) (v217) (v218) (v219) (v220) (v221) (v222) (v223) (v224) (v225) (v226) (v227) (v228) (v229) (v230) (v231) (v232) (v233) (v234) (v235) (v236) (v237) (v238) (v239) (v240) (v241) (v242) (v243) (v244) (v245) (v246) (v247) (v248) (v249) (v250) (v251) (v252) (v253) (v254) (v255) (v256)))
+(setf t (table (v) (t 14-13-12-11-10-9-8-7-6-5-4-3-2-1-0:v 14-13-12-11-10-9-8-7-6-5-4-3-2-1-0:v 14-13-12-11-10-9-8-7-6-5-4-3-2-1-0:v 14-13-12-11-10-9-8-7-6-5-4-3-2-1-0:v 14-13-12-11-10-9-8-7-6-5-4-3-2-1-0:v 14-13-12-11-10-9-8-7-6-5-4-3-2-1-0:v 14-13-12-11-10-9-8-7-6-5-4-3-2-1-0:v 14-13-12-11-10-9-8-7-6-5-4-3-2-1-0:v 14-13-12-11-10-9-8-7-6-5-4-3-2-1-0:v 14-13-12-11-10-9-8-7-6-5-4-3-2-1-0:v 14-13-12-11-10-9-8-7-6-5-4-3-2-1-0:v 14-13-12-11-10-9-8-7-6-5-4-3-2-1-0:v 14-13-12-11-10-9-8-7-6-5-4-3-2-1-0:v 14-13-12-11-10-9-8-7-6-5-4-3-2-1-0:v 14-13-12-11-10-9-8-7-6-5-4-3-2-1-0:v 14-13-12-11-10-9-8-7-6-5-4-3-2-1-0:v 14-13-12-11-10-9-8-7-6-5-4-3-2-1-0:v)))
+(betti t 0 16)
+(setf x (table (v) (t 15-14-13-12-11-10-9-8-7-6-5-4-3-2-1-0:v 15-14-13-12-11-10-9-8-7-6-5-4-3-2-1-0:v 15-14-13-12-11-10-9-8-7-6-5-4-3-2-1-0:v 15-14-13-12-11-10-9-8-7-6-5-4-3-2-1-0:v 15-14-13-12-11-10-9-8-7-6-5-4-3-2-1-0:v 15-14-13-12-11-10-9-8-7-6-5-4-3-2-1-0:v 15-14-13-12-11-10-9-8-7-6-5-4-3-2-1-0:v 15-14-13-12-11-10-9-8-7-6-5-4-3-2-1-0:v 15-14-13-12-11-10-9-8-7-6-5-4-3-2-1-0:v 15-14-13-12-11-10-9-8-7-6-5-4-3-2-1-0:v 15-14-13-12-11-10-9-8-7-6-5-4-3-2-1-0:v 15-14-13-12-11-10-9-8-7-6-5-4-3-2-1-0:v 15-14-13-12-11-10-9-8-7-6-5-4-3-2-1-0:v 15-14-13-12-11-10-9-8-7-6-5-4-3-2-1-0:v 15-14-13-12-11-10-9-8-7-6-5-4-3-2-1-0:v 15-14-13-12-11-10-9-8-7-6-5-4-3-2-1-0:v 15-14-13-12-11-10-9-8-7-6-5-4-3-2-1-0:v 15-14-13-12-11-10-9-8-7-6-5-4-3-2-1-0:v)))
+; A name has at most 16 bytes, and a number 18 digits.
+(setf abcdefghijklmnop c)
+(setf abcdefghijklmnopq c)
+(betti c 0 999999999999999999)
+(betti c 0 9999999999999999999)
+; There are eight fields, and the last one is F_19.
+(field 19)
+(field 23)
+; The values of a bundle and the integers of a simplex have magnitude 100,000 at most.
+(setf b (bundle (sphere 2) (S2 100000)))
+(setf x (bundle (sphere 2) (S2 100001)))
+(setf b (bundle (sphere 2) (S2 -100000)))
+(setf x (bundle (sphere 2) (S2 -100001)))
+(boundary (k-z-1) 1 (1 |100000|))
+(boundary (k-z-1) 1 (1 |100001|))
+(boundary (k-z-1) 1 (1 |-100000|))
+(boundary (k-z-1) 1 (1 |-100001|))
+; A chain has at most 50,000 terms. That between a loop of N steps and N loops of one has N - 1.
+(field 2)
+(homology (bundle (sphere 2) (S2 50001)) 1)
+(homology (bundle (sphere 2) (S2 50002)) 1)
+(names)
+~defined s
+error term bad-sphere 17
+defined c
+error term bad-sphere 0
+betti 0 1
+error degree 17
+homology 1
+(1 S16)
+error degree 17
+defined d
+betti 0 1
+error term too-deep 9
+error term too-deep 9
+error syntax
+defined rows
+betti 256
+error table too-many-cells 257
+defined t
+betti 1 0 0 0 0 0 0 0 0 0 0 0 0 0 0 0 1
+error table bad-dimension 1
+defined abcdefghijklmnop
+error syntax
+error degree 999999999999999999
+error syntax
+field 19
+error field 23
+defined b
+error over integer 100001
+defined b
+error over integer 100001
+chain 0
+error over integer 100001
+chain 0
+error over integer 100001
+field 2
+homology 0
+error over terms 50001
+names s c d rows t abcdefghijklmnop b
 ~moore_spaces~; A circle with a disc whose rim is wound around it three times, and one with a disc that is wound around it five times. The discs
 ; are cut into triangles: the loop b goes twice along a, c three times and d four times.
 (setf three (table (v) (a v v) (b v v) (s a b a) (t a 0:v b)))

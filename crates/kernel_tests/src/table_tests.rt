@@ -63,13 +63,14 @@ impl Asked {
     }
 }
 
-fn key_of(alloc: Global, asked: Asked) -> Result<Key, AllocError> {
-    Ok(Key {
+fn key_of(alloc: Global, asked: Asked) -> Result<Arc<Key>, AllocError> {
+    let key = Key {
         term: Arc::new(alloc, Term::Sphere(1))?,
         prime: Prime::Two,
         op: asked.op(),
         place: asked.place(),
-    })
+    };
+    Arc::new(alloc, key)
 }
 
 fn is_published(alloc: Global, book: &Book, asked: Asked) -> Result<bool, AllocError> {
